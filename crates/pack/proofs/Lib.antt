@@ -1,0 +1,5 @@
+pub mod Bytes
+pub mod Numbers
+pub mod PlainDisk
+pub mod Below
+pub mod FreshTrack

@@ -1,0 +1,3 @@
+// Packs: drives that are held in bytes.
+pub mod id_record;
+pub mod plain_pack;

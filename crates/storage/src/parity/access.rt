@@ -78,7 +78,7 @@ pub impl<S: Storage> Storage for Parity<S> as ParityStorage {
 
     fn load(&self, address: u32, key: u8) -> Result<u16, Fault> {
         let word = self.below.load(address, key)?;
-        if self.marks.has(&address) {
+        if self.is_marked(address) {
             return Err(Fault::StorageDataCheck);
         }
         Ok(word)

@@ -1,5 +1,5 @@
 -- Laws of the marks that a table holds. Assumes nothing.
-use mathlib.Core.Bool.{Bool, true, false, not, _||_}
+use mathlib.Core.Bool.{Bool, true, false, not, _&&_, _||_, cond}
 use mathlib.Core.List.{List, [], _∷_, _++_}
 use mathlib.Core.Path.{_≡_, refl, sym, ap, _∙_}
 use Prim.Native.Nat.{ℕ, _+_, _<_, _≤_}
@@ -7,7 +7,8 @@ use lib.Dec.{ltb}
 use lib.ListN.{length, getD, set, drop}
 use Rattle.std.proofs.shelf.Filters.{Keeping, keeping-more-set}
 use Rattle.std.proofs.shelf.Lists.{at-drop-more, at-drop-all, getD-default}
-use Rattle.std.proofs.shelf.Tests.{cond-true, cond-false, lt-ltb, or-parts, not-from-false}
+use Rattle.std.proofs.shelf.Tests.{cond-true, cond-false, lt-ltb, or-parts, not-from-true, not-from-false, and-right}
+use Rattle.std.specs.Orderings.{Decides}
 use Rattle.std.specs.declared.result.Result.the-variants.{Ok}
 use Rattle.basics.specs.Marks.{has, without, entered, entering}
 
@@ -42,3 +43,28 @@ without-none alike x [] none = refl
 without-none alike x (y ∷ ys) none =
     let parts = or-parts (alike y x) (has alike x ys) none in
     cond-true (not (alike y x)) _ _ (not-from-false (alike y x) (parts .0)) ∙ ap (λ (l : List _). y ∷ l) (without-none alike x ys (parts .1))
+
+-- what is still there after a mark was taken out
+module _ {T : Type 0} (alike : T → T → Bool) (decides : (x y : T) → Decides (alike x y) (x ≡ y)) (x y : T) where
+  apart : (z : T) → alike z x ≡ true → alike z y ≡ alike x y
+  apart z e = ap (λ (w : T). alike w y) (decides z x .0 e)
+
+  and-not-true : (a b : Bool) → b ≡ true → (a && not b) ≡ false
+  and-not-true a b e = and-right a (not b) (not-from-true b e)
+
+  step : (zx zy xy h : Bool) → (zx ≡ true → zy ≡ xy) → cond (not zy) (zx || (h && not xy)) (h && not xy) ≡ ((zx || h) && not xy)
+  step true true xy h e = and-not-true h xy (sym (e refl)) ∙ sym (not-from-true xy (sym (e refl)))
+  step true false xy h e = ap not (e refl)
+  step false true xy h e = refl
+  step false false xy h e = refl
+
+  pub has-without : (ys : List T) → has alike x (without alike y ys) ≡ (has alike x ys && not (alike x y))
+  has-without [] = refl
+  has-without (z ∷ ys) =
+      has-cond (not (alike z y)) z (without alike y ys)
+      ∙ ap (λ (h : Bool). cond (not (alike z y)) (alike z x || h) h) (has-without ys)
+      ∙ step (alike z x) (alike z y) (alike x y) (has alike x ys) (apart z)
+    where
+      has-cond : (b : Bool) (w : T) (l : List T) → has alike x (cond b (w ∷ l) l) ≡ cond b (alike w x || has alike x l) (has alike x l)
+      has-cond true w l = refl
+      has-cond false w l = refl

@@ -1,2 +1,3 @@
 pub mod Disk
 pub mod Search
+pub mod Defects

@@ -4,10 +4,15 @@
 --   firstOf    the place of the first of a list that passes a test, counted from a number on
 --   someOf     whether one of a list passes a test
 --   searched   the first place that matches; where there is none, whether a spoiled ID was passed
-use mathlib.Core.Bool.{Bool, false, not, _&&_, _||_, cond}
+--   Holds      a place's ID is good and equals the argument
+--   Found      what a place found is: it holds the argument, and none before it does
+--   Missing    what is known where none was found, with what is told of spoiled IDs
+use mathlib.Core.Bool.{Bool, true, false, not, _&&_, _||_, cond}
 use mathlib.Core.List.{List, [], _∷_, map}
-use Prim.Native.Nat.{ℕ, _+_}
+use mathlib.Core.Path.{_≡_}
+use Prim.Native.Nat.{ℕ, _+_, _<_}
 use Rattle.std.specs.Iters.{counting}
+use Rattle.std.specs.Orderings.{Decides}
 use Rattle.std.specs.declared.option.Option.{Option}
 use Rattle.std.specs.declared.option.Option.the-variants.{Some, None}
 use Rattle.std.specs.declared.result.Result.{Result}
@@ -41,3 +46,17 @@ told spoiled None = Err record { «passed_spoiled» = spoiled }
 
 abbrev pub searched : SectorId → List IdField → Result ℕ NoRecord
 searched argument fields = told (someOf isSpoiled fields) (firstOf (matches argument) 0 fields)
+
+pub record Holds (d : Disk) (t : Track) (argument : SectorId) (p : ℕ) : Type 0 where
+  pub good : isGood (d .sector t p .id .condition) ≡ true
+  pub same : d .sector t p .id .id ≡ argument
+
+pub record Found (d : Disk) (t : Track) (argument : SectorId) (p : ℕ) : Type 0 where
+  pub place : p < 60
+  pub here : Holds d t argument p
+  pub first : (q : ℕ) → q < p → Holds d t argument q → ⊥
+
+pub record Missing (d : Disk) (t : Track) (argument : SectorId) (passed : Bool) : Type 0 where
+  pub none : (q : ℕ) → q < 60 → Holds d t argument q → ⊥
+  -- one of the sixty IDs is spoiled
+  pub spoiled : Decides passed ((q : ℕ) × (q < 60) × (isGood (d .sector t q .id .condition) ≡ false))

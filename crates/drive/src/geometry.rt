@@ -10,7 +10,7 @@ pub const PLACES: u8 = 60;
 pub const SECTOR_BYTES: usize = 256;
 
 // The track under one head at one cylinder.
-#[derive(Clone, Copy, PartialEq, Eq, Debug)]
+#[derive(Clone, Copy)]
 pub struct Track {
     pub cylinder: u16,
     pub head: u8,

@@ -21,7 +21,7 @@ impl Condition {
 }
 
 // What names a sector on the track. It need not be where its number says: a sector may have been moved aside.
-#[derive(Clone, Copy, PartialEq, Eq, Debug)]
+#[derive(Clone, Copy)]
 pub struct SectorId {
     pub flag: u8,
     pub cylinder: u16,
@@ -41,7 +41,7 @@ impl SectorId {
 }
 
 // The ID recorded at a place, with its condition.
-#[derive(Clone, Copy, PartialEq, Eq, Debug)]
+#[derive(Clone, Copy)]
 pub struct IdField {
     pub id: SectorId,
     pub condition: Condition,

@@ -1,0 +1,27 @@
+-- A run: any list of the six calls over one card started new.
+--   call   the rule of a call
+--   run    the rules of a list of calls, one after the other
+use mathlib.Core.List.{List, [], _∷_}
+use Rattle.card.specs.Acts.{Act, done, then}
+use Rattle.card.specs.Calls.{Turn, command, halt, store, readiness, service}
+use Rattle.card.specs.Steps.{step}
+use Rattle.card.specs.declared.answer.Answer.{Answer}
+use Rattle.card.specs.declared.call.Call.{Call}
+use Rattle.card.specs.declared.call.Call.the-variants.{Command, Halt, Store, Readiness, Service, Step}
+use Rattle.card.specs.declared.registers.Card.{Card}
+
+abbrev pub call : Card → Call → Act Turn
+call c (Command first second parity) = command c first second parity
+call c Halt = halt c
+call c (Store a k x) = store c a k x
+call c (Readiness r) = readiness c r
+call c Service = service c
+call c Step = step c
+
+pub record Ran : Type 0 where
+  pub card : Card
+  pub answers : List Answer
+
+unfoldable pub run : Card → List Call → Act Ran
+run c [] = done record { card = c; answers = [] }
+run c (x ∷ xs) = then (call c x) (λ t. then (run (t .card) xs) (λ r. done record { card = r .card; answers = t .answer ∷ r .answers }))

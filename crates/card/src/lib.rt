@@ -1,0 +1,10 @@
+// The card: its registers, the six calls and what they answer.
+pub mod answer;
+pub mod call;
+mod calls;
+pub mod control_block;
+pub mod examples;
+pub mod registers;
+mod sectors;
+mod steps;
+mod transfer;

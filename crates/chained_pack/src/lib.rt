@@ -1,0 +1,2 @@
+// The chained pack: a drive held in numbered records, chained by track.
+mod layout;

@@ -12,7 +12,7 @@ use Rattle.std.proofs.shelf.Tests.{cond-true, cond-false, cases-bool, cases-eq,
 use Rattle.drive.specs.Search.{someOf}
 use Rattle.pack.specs.Layout.{everyBelow}
 use Rattle.pack.proofs.Below.{every-at, every-fails}
-use Rattle.chained_pack.specs.Chains.{Directory, chainFrom, endFrom, eachOf, chain, everyRecord, belongs, chainClear, onChain, chainsClear}
+use Rattle.chained_pack.specs.Chains.{Directory, chainFrom, endFrom, eachOf, chainOf, everyRecord, belongs, chainClear, onChain, chainsClear}
 use Rattle.chained_pack.proofs.Counting.{countTo, count-none, count-same, count-list, count-every, every-counted}
 use Rattle.chained_pack.proofs.Walks.{each-at, at-zero, from-more, apart-from}
 
@@ -28,18 +28,18 @@ record-at d test i all low high =
 module _ (d : Directory) (k : ℕ) where
   pub first-within : chainClear d k ≡ true → d .first k ≤ d .count
   first-within clear =
-      let outer = and-parts (leb (d .first k) (d .count) && eachOf (belongs d k) (chain d k)) (eqb (endFrom (d .next) (d .count) (d .first k)) 0) clear in
-      leb-true (d .first k) (d .count) (and-parts (leb (d .first k) (d .count)) (eachOf (belongs d k) (chain d k)) (outer .0) .0)
+      let outer = and-parts (leb (d .first k) (d .count) && eachOf (belongs d k) (chainOf d k)) (eqb (endFrom (d .next) (d .count) (d .first k)) 0) clear in
+      leb-true (d .first k) (d .count) (and-parts (leb (d .first k) (d .count)) (eachOf (belongs d k) (chainOf d k)) (outer .0) .0)
 
-  pub own-records : chainClear d k ≡ true → eachOf (belongs d k) (chain d k) ≡ true
+  pub own-records : chainClear d k ≡ true → eachOf (belongs d k) (chainOf d k) ≡ true
   own-records clear =
-      let outer = and-parts (leb (d .first k) (d .count) && eachOf (belongs d k) (chain d k)) (eqb (endFrom (d .next) (d .count) (d .first k)) 0) clear in
-      and-parts (leb (d .first k) (d .count)) (eachOf (belongs d k) (chain d k)) (outer .0) .1
+      let outer = and-parts (leb (d .first k) (d .count) && eachOf (belongs d k) (chainOf d k)) (eqb (endFrom (d .next) (d .count) (d .first k)) 0) clear in
+      and-parts (leb (d .first k) (d .count)) (eachOf (belongs d k) (chainOf d k)) (outer .0) .1
 
   pub comes-to-end : chainClear d k ≡ true → endFrom (d .next) (d .count) (d .first k) ≡ 0
   comes-to-end clear =
       eqb-true (endFrom (d .next) (d .count) (d .first k)) 0
-      (and-parts (leb (d .first k) (d .count) && eachOf (belongs d k) (chain d k)) (eqb (endFrom (d .next) (d .count) (d .first k)) 0) clear .1)
+      (and-parts (leb (d .first k) (d .count) && eachOf (belongs d k) (chainOf d k)) (eqb (endFrom (d .next) (d .count) (d .first k)) 0) clear .1)
 
   within-from : (f i x : ℕ) → i ≤ d .count → eachOf (belongs d k) (chainFrom (d .next) f i) ≡ true → someOf (eqb x) (chainFrom (d .next) f i) ≡ true → (1 ≤ x) × (x ≤ d .count)
   unfolding someOf chainFrom eachOf
@@ -59,7 +59,7 @@ module _ (d : Directory) (k : ℕ) where
   -- what is on a clear chain
   module _ (clear : chainClear d k ≡ true) (x : ℕ) (on : onChain d k x ≡ true) where
     belongs-here : belongs d k x ≡ true
-    belongs-here = each-at (belongs d k) (chain d k) x (own-records clear) on
+    belongs-here = each-at (belongs d k) (chainOf d k) x (own-records clear) on
 
     pub on-track : d .track x % 64 ≡ k
     on-track = eqb-true (d .track x % 64) k (and-parts (eqb (d .track x % 64) k) (leb (d .next x) (d .count)) belongs-here .0)
@@ -77,14 +77,14 @@ onBelow d (suc k) x = onBelow d k x || onChain d k x
 
 pub lengthsBelow : Directory → ℕ → ℕ
 lengthsBelow d zero = 0
-lengthsBelow d (suc k) = lengthsBelow d k + length (chain d k)
+lengthsBelow d (suc k) = lengthsBelow d k + length (chainOf d k)
 
 module _ (d : Directory) where
   pub lengths-none : lengthsBelow d 0 ≡ 0
   unfolding lengthsBelow
   lengths-none = refl
 
-  pub lengths-more : (k : ℕ) → lengthsBelow d (k + 1) ≡ lengthsBelow d k + length (chain d k)
+  pub lengths-more : (k : ℕ) → lengthsBelow d (k + 1) ≡ lengthsBelow d k + length (chainOf d k)
   unfolding lengthsBelow
   lengths-more k = let next : k + 1 ≡ suc k = omega arith in ap (lengthsBelow d) next
 
@@ -112,14 +112,14 @@ module _ (d : Directory) where
   counted zero clear = count-none (onBelow d 0) (d .count) (λ i. refl)
   counted (suc k) clear =
       let parts = and-parts (everyBelow (chainClear d) k) (chainClear d k) clear in
-      count-list (chain d k) (onBelow d k) (d .count) (apart-from (d .next) (d .count) (d .first k) (comes-to-end d k (parts .1)))
+      count-list (chainOf d k) (onBelow d k) (d .count) (apart-from (d .next) (d .count) (d .first k) (comes-to-end d k (parts .1)))
       (λ x on.
       let use′ = on-use d k (parts .1) x on in
       (use′ .0, use′ .1, ⊎-elim
       (λ before. absurd (omega (arith, below-track k x (parts .0) before .0, on-track d k (parts .1) x on)))
       (λ none. none)
       (cases-bool (onBelow d k x))))
-      ∙ ap (λ (n : ℕ). n + length (chain d k)) (counted k (parts .0))
+      ∙ ap (λ (n : ℕ). n + length (chainOf d k)) (counted k (parts .0))
 
   -- none is left over exactly if the chains have as many records as are in use
   pub none-left : everyBelow (chainClear d) 64 ≡ true → everyRecord d (λ i. onChain d (d .track i % 64) i) ≡ eqb (lengthsBelow d 64) (d .count)

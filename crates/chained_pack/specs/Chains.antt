@@ -1,7 +1,7 @@
 -- The chains of a pack: which records lie on which chain, and which record has a place.
 --   Directory     the count of the records in use (1 to count), the first index of each chain, and each record's next index, track and place
 --   chainFrom     the records of a chain in order, from an index on, so many at most; zero ends it
---   chain         the records of a chain: without a loop it has no more than are in use
+--   chainOf       the records of a chain: without a loop it has no more than are in use
 --   endFrom       the index that a chain comes to after so many records, zero past its end
 --   eachOf        whether each of a list passes a test
 --   everyRecord   whether each record in use passes a test
@@ -12,7 +12,8 @@
 --   placesOnce    no place is recorded twice
 --   recordOf      the record in use that has a track and place, if there is one
 --   foundOn       the first such record on the chain of the track
-use mathlib.Core.Bool.{Bool, true, not, _&&_, cond}
+--   isFirst       whether a record is the first of its track and place on its chain
+use mathlib.Core.Bool.{Bool, true, false, not, _&&_, cond}
 use mathlib.Core.List.{List, [], _∷_}
 use Prim.Native.Nat.{ℕ, zero, suc, _+_, _%_}
 use lib.Dec.{eqb, leb}
@@ -32,8 +33,8 @@ unfoldable pub chainFrom : (ℕ → ℕ) → ℕ → ℕ → List ℕ
 chainFrom next zero i = []
 chainFrom next (suc most) i = cond (eqb i 0) [] (i ∷ chainFrom next most (next i))
 
-abbrev pub chain : Directory → ℕ → List ℕ
-chain d k = chainFrom (d .next) (d .count) (d .first k)
+abbrev pub chainOf : Directory → ℕ → List ℕ
+chainOf d k = chainFrom (d .next) (d .count) (d .first k)
 
 unfoldable pub endFrom : (ℕ → ℕ) → ℕ → ℕ → ℕ
 endFrom next zero i = i
@@ -52,10 +53,10 @@ belongs d k i = eqb (d .track i % 64) k && leb (d .next i) (d .count)
 
 abbrev pub chainClear : Directory → ℕ → Bool
 chainClear d k =
-    leb (d .first k) (d .count) && eachOf (belongs d k) (chain d k) && eqb (endFrom (d .next) (d .count) (d .first k)) 0
+    leb (d .first k) (d .count) && eachOf (belongs d k) (chainOf d k) && eqb (endFrom (d .next) (d .count) (d .first k)) 0
 
 abbrev pub onChain : Directory → ℕ → ℕ → Bool
-onChain d k i = someOf (eqb i) (chain d k)
+onChain d k i = someOf (eqb i) (chainOf d k)
 
 abbrev pub chainsClear : Directory → Bool
 chainsClear d = everyBelow (chainClear d) 64 && everyRecord d (λ i. onChain d (d .track i % 64) i)
@@ -83,4 +84,11 @@ firstPass test [] = None
 firstPass test (i ∷ is) = cond (test i) (Some i) (firstPass test is)
 
 abbrev pub foundOn : Directory → ℕ → ℕ → Option ℕ
-foundOn d t p = firstPass (isAt d t p) (chain d (t % 64))
+foundOn d t p = firstPass (isAt d t p) (chainOf d (t % 64))
+
+abbrev pub isIndex : ℕ → Option ℕ → Bool
+isIndex i (Some j) = eqb j i
+isIndex i None = false
+
+abbrev pub isFirst : Directory → ℕ → Bool
+isFirst d i = isIndex i (foundOn d (d .track i) (d .place i))

@@ -7,15 +7,26 @@ use Prim.Native.Nat.{ℕ, _+_, _-_, _%_, _<_, _≤_}
 use native.Mathlib.Nat.{mod-lt}
 use native.Mathlib.Omega.{arith}
 use lib.Dec.{eqb, lit<}
-use Rattle.std.proofs.shelf.Tests.{cond-true, cond-false, cases-bool, cases-eq, cases-order, both-ways, eq-eqb, eqb-true, and-parts, and-from, false≢true, not-true}
+use Rattle.std.proofs.shelf.Tests.{cond-true, cond-false, cases-bool, cases-eq, cases-order, both-ways, eq-eqb, eqb-true, and-parts, and-from, and-left, and-right, ne-eqb, false≢true, not-true, not-from-false}
 use Rattle.std.specs.declared.option.Option.{Option}
 use Rattle.std.specs.declared.option.Option.the-variants.{Some, None}
 use Rattle.drive.specs.Search.{someOf}
 use Rattle.pack.specs.Layout.{everyBelow}
-use Rattle.pack.proofs.Below.{every-at, every-fails}
+use Rattle.pack.proofs.Below.{every-at, every-from}
 use Rattle.chained_pack.specs.Chains.{Directory, chainFrom, chainOf, eachOf, everyRecord, chainClear, chainsClear, onChain, isAt, alike, placesOnce, recordOf, firstPass, foundOn, isIndex, isFirst}
 use Rattle.chained_pack.proofs.Sound.{record-at, first-within, on-track, on-next, on-use}
 use Rattle.chained_pack.proofs.Walks.{cases-option, each-at, each-from, first-some, first-none, record-some, record-none, at-more, at-zero, at-none}
+
+-- whether a record that says track u and place q is at t and p
+module _ (d : Directory) (t p i u q : ℕ) (track : u ≡ d .track i) (place : q ≡ d .place i) where
+  pub is-here : u ≡ t → q ≡ p → isAt d t p i ≡ true
+  is-here at-t at-p = and-from (eqb (d .track i) t) (eqb (d .place i) p) (eq-eqb (d .track i) t (sym track ∙ at-t)) (eq-eqb (d .place i) p (sym place ∙ at-p))
+
+  pub not-here : ((u ≡ t) × (q ≡ p → ⊥)) ⊎ (u ≡ t → ⊥) → isAt d t p i ≡ false
+  not-here off = ⊎-elim
+      (λ other. and-right (eqb (d .track i) t) (eqb (d .place i) p) (ne-eqb (d .place i) p (λ e. other .1 (place ∙ e))))
+      (λ other. and-left (eqb (d .track i) t) (eqb (d .place i) p) (ne-eqb (d .track i) t (λ e. other (track ∙ e))))
+      off
 
 -- a search along a chain: s records were passed, and index i comes next
 module _ (d : Directory) (test : ℕ → Bool) (s i : ℕ) where
@@ -35,6 +46,21 @@ module _ (d : Directory) (test : ℕ → Bool) (s i : ℕ) where
   unfolding firstPass
   hit-one below some hit =
       sym (at-more (d .next) (firstPass test) (d .count) s i below some ∙ cond-true (test i) (Some i) _ hit)
+
+  pub each-none : (i ≡ 0) ⊎ (d .count ≤ s) → eachOf test (chainFrom (d .next) (d .count - s) i) ≡ true
+  unfolding eachOf
+  each-none end = ⊎-elim
+      (λ e. at-zero (d .next) (eachOf test) (d .count - s) i e)
+      (λ past. at-none (d .next) (eachOf test) (d .count) s i past)
+      end
+
+  pub each-one : s < d .count → (i ≡ 0 → ⊥) → eachOf test (chainFrom (d .next) (d .count - s) i) ≡ (test i && eachOf test (chainFrom (d .next) (d .count - (s + 1)) (d .next i)))
+  unfolding eachOf
+  each-one below some = at-more (d .next) (eachOf test) (d .count) s i below some
+
+  pub each-fails : s < d .count → (i ≡ 0 → ⊥) → test i ≡ false → eachOf test (chainFrom (d .next) (d .count - s) i) ≡ false
+  each-fails below some miss =
+      each-one below some ∙ and-left (test i) (eachOf test (chainFrom (d .next) (d .count - (s + 1)) (d .next i))) miss
 
 module _ (d : Directory) (clear : chainsClear d ≡ true) where
   parts : (everyBelow (chainClear d) 64 ≡ true) × (everyRecord d (λ i. onChain d (d .track i % 64) i) ≡ true)
@@ -111,3 +137,47 @@ module _ (d : Directory) (clear : chainsClear d ≡ true) where
       found .1 ∙ ap Some (one-record once t p (found .0) (some .0) (here .1) (here .2) (at .1) (at .2) (here .0) (at .0)) ∙ sym (some .1))
       (cases-option (recordOf d t p)))
       (cases-option (foundOn d t p))
+
+  index-is : (i : ℕ) (o : Option ℕ) → isIndex i o ≡ true → o ≡ Some i
+  index-is i (Some j) same = ap Some (eqb-true j i same)
+  index-is i None same = absurd (false≢true same)
+
+  -- no place is recorded twice exactly if each record is the first of its place on its chain
+  pub each-first : everyBelow (λ k. eachOf (isFirst d) (chainOf d k)) 64 ≡ placesOnce d
+  each-first =
+      ⊎-elim
+      (λ all.
+      let first′ : (i : ℕ) → 1 ≤ i → i ≤ d .count → foundOn d (d .track i) (d .place i) ≡ Some i = λ i low high.
+      index-is i (foundOn d (d .track i) (d .place i))
+      (each-at (isFirst d) (chainOf d (d .track i % 64)) i
+      (every-at (λ k. eachOf (isFirst d) (chainOf d k)) 64 (d .track i % 64) all (mod-lt (d .track i) (lit< tt)))
+      (on-own i low high)) in
+      all ∙ sym (every-from (λ i. everyBelow (λ j. not (alike d (i + 1) (j + 1))) i) (d .count) (λ i hi.
+      every-from (λ j. not (alike d (i + 1) (j + 1))) i (λ j hj. ⊎-elim
+      (λ same.
+      let both = and-parts (eqb (d .track (j + 1)) (d .track (i + 1))) (eqb (d .place (j + 1)) (d .place (i + 1))) same in
+      let a = first′ (i + 1) (omega arith) (omega arith) in
+      let b = first′ (j + 1) (omega arith) (omega arith) in
+      let one : Some (i + 1) ≡ Some (j + 1) =
+      sym a ∙ ap₂ (foundOn d) (sym (eqb-true (d .track (j + 1)) (d .track (i + 1)) (both .0))) (sym (eqb-true (d .place (j + 1)) (d .place (i + 1)) (both .1))) ∙ b in
+      let equal : i + 1 ≡ j + 1 = cc in
+      absurd (omega arith))
+      (λ other. not-from-false (alike d (i + 1) (j + 1)) other)
+      (cases-bool (alike d (i + 1) (j + 1)))))))
+      (λ some. ⊎-elim
+      (λ once. absurd (both-ways (everyBelow (λ k. eachOf (isFirst d) (chainOf d k)) 64) some
+      (every-from (λ k. eachOf (isFirst d) (chainOf d k)) 64 (λ k below.
+      each-from (isFirst d) (chainOf d k) (λ x on.
+      let use′ = on-use d k (clear-at k below) x on in
+      let here : isAt d (d .track x) (d .place x) x ≡ true =
+      and-from (eqb (d .track x) (d .track x)) (eqb (d .place x) (d .place x)) (eq-eqb (d .track x) (d .track x) refl) (eq-eqb (d .place x) (d .place x) refl) in
+      ⊎-elim
+      (λ none. absurd (found-none (d .track x) (d .place x) x none (use′ .0) (use′ .1) here))
+      (λ found.
+      let at = found-is (d .track x) (d .place x) (found .0) (found .1) in
+      ap (isIndex x) (found .1)
+      ∙ eq-eqb (found .0) x (one-record once (d .track x) (d .place x) (found .0) x (at .1) (at .2) (use′ .0) (use′ .1) (at .0) here))
+      (cases-option (foundOn d (d .track x) (d .place x))))))))
+      (λ twice. some ∙ sym twice)
+      (cases-bool (placesOnce d)))
+      (cases-bool (everyBelow (λ k. eachOf (isFirst d) (chainOf d k)) 64))

@@ -67,3 +67,44 @@ pub(crate) fn find(pack: &[u8], track: u16, place: u8) -> Option<u16>
     }
     None
 }
+
+// whether a record is the one that is found at its place
+fn is_first(pack: &[u8], index: u16) -> bool
+    requires { ⌜ 136 + directory (now pack) .count * 268 ≤ length (now pack) ⌝ ∗ ⌜ chainsClear (directory (now pack)) ≡ true ⌝ ∗ ⌜ 1 ≤ index ⌝ ∗ ⌜ index ≤ directory (now pack) .count ⌝ }
+    ensures { λ r. ⌜ r ≡ isFirst (directory (now (pack .entry))) index ⌝ }
+{
+    let front = head(pack, index);
+    find(pack, front.track, front.place) == Some(index)
+}
+
+// whether each record of a chain is the first of its place there
+fn chain_single(pack: &[u8], chain: u16) -> bool
+    requires { ⌜ 136 + directory (now pack) .count * 268 ≤ length (now pack) ⌝ ∗ ⌜ chainsClear (directory (now pack)) ≡ true ⌝ ∗ ⌜ chain < 64 ⌝ }
+    ensures { λ r. ⌜ r ≡ eachOf (isFirst (directory (now (pack .entry)))) (chainOf (directory (now (pack .entry))) chain) ⌝ }
+{
+    let mut index = first(pack, chain);
+    for _ in 0..count(pack) {
+        if index == 0 {
+            break;
+        }
+        if !is_first(pack, index) {
+            return false;
+        }
+        index = head(pack, index).next;
+    }
+    true
+}
+
+// whether no place is recorded twice; the first place that is ends the search, so no record is looked for
+// past the 900 places of a chain
+pub(crate) fn places_once(pack: &[u8]) -> bool
+    requires { ⌜ 136 + directory (now pack) .count * 268 ≤ length (now pack) ⌝ ∗ ⌜ chainsClear (directory (now pack)) ≡ true ⌝ }
+    ensures { λ r. ⌜ r ≡ placesOnce (directory (now (pack .entry))) ⌝ }
+{
+    for chain in 0..CHAINS {
+        if !chain_single(pack, chain) {
+            return false;
+        }
+    }
+    true
+}

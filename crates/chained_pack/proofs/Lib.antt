@@ -4,3 +4,5 @@ pub mod Counting
 pub mod Sound
 pub mod Lengths
 pub mod Lookups
+pub mod Parts
+pub mod ChainedDisk

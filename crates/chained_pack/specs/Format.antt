@@ -7,13 +7,16 @@
 --   sectorAt      what a record that begins at an index holds: behind the front the ID (5) and the data (256)
 --   recordFor     the record of a place on the drive; its track is cylinder × heads + head
 --   chainedDisk   what a chained pack means: a place with no record is blank
+--   dataPut       a record's data replaced and made good: its data condition and its data alone
+--   bytesAfter    the bytes after a write, which is accepted exactly where the ID is good
 use mathlib.Core.Bool.{cond}
 use mathlib.Core.List.{List}
-use Prim.Native.Nat.{ℕ, _+_, _-_, _*_}
-use lib.ListN.{getD, take, drop}
+use Prim.Native.Nat.{ℕ, _+_, _-_, _*_, _%_}
+use lib.ListN.{getD, set, take, drop}
+use lib.Seq.{paste}
 use Rattle.std.specs.declared.option.Option.{Option}
 use Rattle.std.specs.declared.option.Option.the-variants.{Some, None}
-use Rattle.drive.specs.Disk.{Sector, Disk, onDrive, blank}
+use Rattle.drive.specs.Disk.{Sector, Disk, isGood, onDrive, blank}
 use Rattle.drive.specs.declared.geometry.Track.{Track}
 use Rattle.pack.specs.Layout.{conditionOf, idOf}
 use Rattle.chained_pack.specs.Chains.{Directory, recordOf}
@@ -44,7 +47,7 @@ headOf bytes i = headAt bytes (startOf i)
 abbrev pub directory : List ℕ → Directory
 directory bytes = record {
   count = wordAt bytes 6;
-  first = λ k. wordAt bytes (8 + k * 2);
+  first = λ k. wordAt bytes (8 + k % 64 * 2);
   next = λ i. headOf bytes i .next;
   track = λ i. headOf bytes i .track;
   place = λ i. headOf bytes i .place;
@@ -69,3 +72,14 @@ recordFor bytes t p =
 
 abbrev pub chainedDisk : List ℕ → Disk
 chainedDisk bytes = record { heads = headsOf bytes; sector = λ t p. sectorOf bytes (recordFor bytes t p) }
+
+abbrev pub dataPut : List ℕ → ℕ → List ℕ → List ℕ
+dataPut bytes at new = paste (set bytes (at + 6) 0) (at + 12) new 256
+
+abbrev pub recordPut : List ℕ → Option ℕ → List ℕ → List ℕ
+recordPut bytes (Some i) new = dataPut bytes (startOf i) new
+recordPut bytes None new = bytes
+
+abbrev pub bytesAfter : List ℕ → Track → ℕ → List ℕ → List ℕ
+bytesAfter bytes t p new =
+    cond (isGood (chainedDisk bytes .sector t p .id .condition)) (recordPut bytes (recordFor bytes t p) new) bytes

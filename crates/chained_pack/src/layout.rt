@@ -15,6 +15,14 @@ const COUNT_AT: usize = 6;
 
 const FIRSTS_AT: usize = 8;
 
+// where in the header the heads stand
+pub(crate) const HEADS_AT: usize = 4;
+
+// where in a record the data condition stands, and the data begins
+pub(crate) const DATA_CONDITION_AT: usize = 6;
+
+pub(crate) const DATA_AT: usize = 12;
+
 // chains of a pack
 pub(crate) const CHAINS: u16 = 64;
 

@@ -1,0 +1,59 @@
+-- What a lawful pack has. Assumes nothing.
+use mathlib.Core.Bool.{Bool, true, _&&_, _||_}
+use mathlib.Core.List.{List}
+use mathlib.Core.Logic.{⊎-elim}
+use mathlib.Core.Path.{_≡_, sym, _∙_}
+use Prim.Native.Nat.{ℕ, _+_, _*_, _<_, _≤_}
+use native.Mathlib.Omega.{arith}
+use lib.Dec.{eqb, leb}
+use lib.ListN.{length, getD}
+use Rattle.std.proofs.shelf.Tests.{and-parts, and-from, or-cases, eqb-true, leb-true}
+use Rattle.chained_pack.specs.Chains.{chainsClear, placesOnce}
+use Rattle.chained_pack.specs.Format.{headsOf, directory}
+use Rattle.chained_pack.specs.Lawful.{room, lengthClear, textClear, headerClear, recordsClear, isLawful}
+
+pub record Clear (b : List ℕ) : Type 0 where
+  pub long : lengthClear b ≡ true
+  pub header : headerClear b ≡ true
+  pub records : recordsClear b ≡ true
+  pub chains : chainsClear (directory b) ≡ true
+  pub once : placesOnce (directory b) ≡ true
+
+module _ (b : List ℕ) where
+  pub clear-parts : isLawful b ≡ true → Clear b
+  clear-parts lawful =
+      let a = and-parts (lengthClear b && headerClear b && recordsClear b && chainsClear (directory b)) (placesOnce (directory b)) lawful in
+      let c = and-parts (lengthClear b && headerClear b && recordsClear b) (chainsClear (directory b)) (a .0) in
+      let d = and-parts (lengthClear b && headerClear b) (recordsClear b) (c .0) in
+      let e = and-parts (lengthClear b) (headerClear b) (d .0) in
+      record { long = e .0; header = e .1; records = d .1; chains = c .1; once = a .1 }
+
+  pub clear-from : Clear b → isLawful b ≡ true
+  clear-from c =
+      and-from (lengthClear b && headerClear b && recordsClear b && chainsClear (directory b)) (placesOnce (directory b))
+      (and-from (lengthClear b && headerClear b && recordsClear b) (chainsClear (directory b))
+      (and-from (lengthClear b && headerClear b) (recordsClear b) (and-from (lengthClear b) (headerClear b) (c .long) (c .header)) (c .records)) (c .chains))
+      (c .once)
+
+  pub room-for-used : lengthClear b ≡ true → 136 + directory b .count * 268 ≤ length b
+  room-for-used long =
+      let a = and-parts (eqb (length b) (136 + room b * 268) && leb (room b) 65535) (leb (directory b .count) (room b)) long in
+      let c = and-parts (eqb (length b) (136 + room b * 268)) (leb (room b) 65535) (a .0) in
+      let whole = eqb-true (length b) (136 + room b * 268) (c .0) in
+      let used = leb-true (directory b .count) (room b) (a .1) in
+      omega (arith, whole, used)
+
+  heads-cases : headerClear b ≡ true → (2 ≤ headsOf b) × (headsOf b ≤ 3)
+  heads-cases header =
+      let a = and-parts (textClear b && (eqb (headsOf b) 2 || eqb (headsOf b) 3)) (eqb (getD b 5 0) 0) header in
+      let c = and-parts (textClear b) (eqb (headsOf b) 2 || eqb (headsOf b) 3) (a .0) in
+      ⊎-elim
+      (λ two. let e = eqb-true (headsOf b) 2 two in (omega arith, omega arith))
+      (λ three. let e = eqb-true (headsOf b) 3 three in (omega arith, omega arith))
+      (or-cases (eqb (headsOf b) 2) (eqb (headsOf b) 3) (c .1))
+
+  pub heads-low : headerClear b ≡ true → 2 ≤ headsOf b
+  heads-low header = heads-cases header .0
+
+  pub heads-high : headerClear b ≡ true → headsOf b ≤ 3
+  heads-high header = heads-cases header .1

@@ -5,6 +5,7 @@ use mathlib.Core.Logic.{⊎-elim}
 use mathlib.Core.Path.{_≡_, sym, _∙_}
 use Prim.Native.Nat.{ℕ, _+_, _*_, _<_, _≤_}
 use native.Mathlib.Omega.{arith}
+use lib.Arith.{digits-lt}
 use lib.Dec.{eqb, leb}
 use lib.ListN.{length, getD}
 use Rattle.std.proofs.shelf.Tests.{and-parts, and-from, or-cases, eqb-true, leb-true}
@@ -57,3 +58,7 @@ module _ (b : List ℕ) where
 
   pub heads-high : headerClear b ≡ true → headsOf b ≤ 3
   heads-high header = heads-cases header .1
+
+-- the number of a track on the drive
+pub track-small : (c d h : ℕ) → c < 303 → d < h → h ≤ 3 → c * h + d < 909
+track-small c d h hc hd high = let tracks : c * h + d < 303 * h = digits-lt hc hd in omega arith

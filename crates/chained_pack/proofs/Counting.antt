@@ -12,7 +12,7 @@ use Rattle.std.proofs.shelf.Tests.{cond-true, cond-false, cases-bool, cases-eq,
 use Rattle.drive.specs.Search.{someOf}
 use Rattle.drive.proofs.Searching.{or-assoc, or-none}
 use Rattle.pack.specs.Layout.{everyBelow}
-use Rattle.chained_pack.proofs.Walks.{Apart}
+use Rattle.chained_pack.specs.Laws.{Apart}
 
 pub countTo : (ℕ → Bool) → ℕ → ℕ
 countTo test zero = 0

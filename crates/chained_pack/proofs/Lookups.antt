@@ -14,8 +14,9 @@ use Rattle.drive.specs.Search.{someOf}
 use Rattle.pack.specs.Layout.{everyBelow}
 use Rattle.pack.proofs.Below.{every-at, every-from}
 use Rattle.chained_pack.specs.Chains.{Directory, chainFrom, chainOf, eachOf, everyRecord, chainClear, chainsClear, onChain, isAt, alike, placesOnce, recordOf, firstPass, foundOn, isIndex, isFirst}
-use Rattle.chained_pack.proofs.Sound.{record-at, first-within, on-track, on-next, on-use}
-use Rattle.chained_pack.proofs.Walks.{cases-option, each-at, each-from, first-some, first-none, record-some, record-none, at-more, at-zero, at-none}
+use Rattle.chained_pack.specs.Laws.{Orderly}
+use Rattle.chained_pack.proofs.Sound.{record-at, comes-to-end, first-within, on-track, on-next, on-use}
+use Rattle.chained_pack.proofs.Walks.{apart-from, cases-option, each-at, each-from, first-some, first-none, record-some, record-none, at-more, at-zero, at-none}
 
 -- whether a record that says track u and place q is at t and p
 module _ (d : Directory) (t p i u q : ℕ) (track : u ≡ d .track i) (place : q ≡ d .place i) where
@@ -138,6 +139,11 @@ module _ (d : Directory) (clear : chainsClear d ≡ true) where
       (cases-option (recordOf d t p)))
       (cases-option (foundOn d t p))
 
+  -- a record has its own track and place
+  own-at : (x : ℕ) → isAt d (d .track x) (d .place x) x ≡ true
+  own-at x =
+      and-from (eqb (d .track x) (d .track x)) (eqb (d .place x) (d .place x)) (eq-eqb (d .track x) (d .track x) refl) (eq-eqb (d .place x) (d .place x) refl)
+
   index-is : (i : ℕ) (o : Option ℕ) → isIndex i o ≡ true → o ≡ Some i
   index-is i (Some j) same = ap Some (eqb-true j i same)
   index-is i None same = absurd (false≢true same)
@@ -169,8 +175,7 @@ module _ (d : Directory) (clear : chainsClear d ≡ true) where
       (every-from (λ k. eachOf (isFirst d) (chainOf d k)) 64 (λ k below.
       each-from (isFirst d) (chainOf d k) (λ x on.
       let use′ = on-use d k (clear-at k below) x on in
-      let here : isAt d (d .track x) (d .place x) x ≡ true =
-      and-from (eqb (d .track x) (d .track x)) (eqb (d .place x) (d .place x)) (eq-eqb (d .track x) (d .track x) refl) (eq-eqb (d .place x) (d .place x) refl) in
+      let here = own-at x in
       ⊎-elim
       (λ none. absurd (found-none (d .track x) (d .place x) x none (use′ .0) (use′ .1) here))
       (λ found.
@@ -181,3 +186,25 @@ module _ (d : Directory) (clear : chainsClear d ≡ true) where
       (λ twice. some ∙ sym twice)
       (cases-bool (placesOnce d)))
       (cases-bool (everyBelow (λ k. eachOf (isFirst d) (chainOf d k)) 64))
+
+  pub orderly : placesOnce d ≡ true → Orderly d
+  orderly once = record {
+    chained = λ i k use′ below. ⊎-elim
+        (λ e. ap (λ (n : ℕ). onChain d n i) (sym e) ∙ on-own i (use′ .0) (use′ .1) ∙ sym (eq-eqb (d .track i % 64) k e))
+        (λ ne. ⊎-elim
+        (λ on. absurd (ne (on-track d k (clear-at k below) i on)))
+        (λ off. off ∙ sym (ne-eqb (d .track i % 64) k ne))
+        (cases-bool (onChain d k i)))
+        (cases-eq (d .track i % 64) k);
+    used = λ k i below on. on-use d k (clear-at k below) i on;
+    apart = λ k below. apart-from (d .next) (d .count) (d .first k) (comes-to-end d k (clear-at k below));
+    once = λ i j ui uj track place. one-record once (d .track i) (d .place i) i j (ui .0) (ui .1) (uj .0) (uj .1) (own-at i)
+        (ap₂ (λ (t p : ℕ). isAt d t p j) track place ∙ own-at j);
+    own = λ i use′. ⊎-elim
+        (λ none. absurd (both-ways (isAt d (d .track i) (d .place i) i) (record-none (isAt d (d .track i) (d .place i)) (d .count) i none (use′ .0) (use′ .1)) (own-at i)))
+        (λ some.
+        let at = record-some (isAt d (d .track i) (d .place i)) (d .count) (some .0) (some .1) in
+        some .1 ∙ ap Some (one-record once (d .track i) (d .place i) (some .0) i (at .1) (at .2) (use′ .0) (use′ .1) (at .0) (own-at i)))
+        (cases-option (recordOf d (d .track i) (d .place i)));
+    found = found-record once;
+  }

@@ -1,17 +1,21 @@
 -- What a lawful pack has. Assumes nothing.
-use mathlib.Core.Bool.{Bool, true, _&&_, _||_}
+use mathlib.Core.Bool.{Bool, true, false, _&&_, _||_, cond}
 use mathlib.Core.List.{List}
 use mathlib.Core.Logic.{⊎-elim}
-use mathlib.Core.Path.{_≡_, sym, _∙_}
+use mathlib.Core.Path.{_≡_, refl, sym, _∙_}
 use Prim.Native.Nat.{ℕ, _+_, _*_, _<_, _≤_}
 use native.Mathlib.Omega.{arith}
 use lib.Arith.{digits-lt}
 use lib.Dec.{eqb, leb}
 use lib.ListN.{length, getD}
 use Rattle.std.proofs.shelf.Tests.{and-parts, and-from, or-cases, eqb-true, leb-true}
+use Rattle.std.specs.declared.option.Option.{Option}
+use Rattle.std.specs.declared.option.Option.the-variants.{Some, None}
+use Rattle.basics.specs.declared.refusal.Refusal.{Refusal}
+use Rattle.basics.specs.declared.refusal.Refusal.the-variants.{Length, Header, Record, Chain, Double}
 use Rattle.chained_pack.specs.Chains.{chainsClear, placesOnce}
 use Rattle.chained_pack.specs.Format.{headsOf, directory}
-use Rattle.chained_pack.specs.Lawful.{room, lengthClear, textClear, headerClear, recordsClear, isLawful}
+use Rattle.chained_pack.specs.Lawful.{room, lengthClear, textClear, headerClear, recordsClear, chainedFault, isLawful}
 
 pub record Clear (b : List ℕ) : Type 0 where
   pub long : lengthClear b ≡ true
@@ -62,3 +66,17 @@ module _ (b : List ℕ) where
 -- the number of a track on the drive
 pub track-small : (c d h : ℕ) → c < 303 → d < h → h ≤ 3 → c * h + d < 909
 track-small c d h hc hd high = let tracks : c * h + d < 303 * h = digits-lt hc hd in omega arith
+
+-- a test that does not give the fault was passed
+passed : (t : Bool) (x : Refusal) (rest : Option Refusal) → cond t rest (Some x) ≡ None → (t ≡ true) × (rest ≡ None)
+passed true x rest none = (refl, none)
+passed false x rest none = let z : _≡_ {A = ℕ} 0 1 = cc in absurd (omega arith)
+
+pub no-fault : (b : List ℕ) → chainedFault b ≡ None → Clear b
+no-fault b none =
+    let l = passed (lengthClear b) Length _ none in
+    let h = passed (headerClear b) Header _ (l .1) in
+    let r = passed (recordsClear b) Record _ (h .1) in
+    let c = passed (chainsClear (directory b)) Chain _ (r .1) in
+    let d = passed (placesOnce (directory b)) Double _ (c .1) in
+    record { long = l .0; header = h .0; records = r .0; chains = c .0; once = d .0 }

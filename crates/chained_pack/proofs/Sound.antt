@@ -16,10 +16,6 @@ use Rattle.chained_pack.specs.Chains.{Directory, chainFrom, endFrom, eachOf, c
 use Rattle.chained_pack.proofs.Counting.{countTo, count-none, count-same, count-list, count-every, every-counted}
 use Rattle.chained_pack.proofs.Walks.{each-at, at-zero, from-more, apart-from}
 
--- a record in use
-pub InUse : Directory → ℕ → Type 0
-InUse d i = (1 ≤ i) × (i ≤ d .count)
-
 pub record-at : (d : Directory) (test : ℕ → Bool) (i : ℕ) → everyRecord d test ≡ true → 1 ≤ i → i ≤ d .count → test i ≡ true
 record-at d test i all low high =
     let here : i - 1 + 1 ≡ i = omega arith in

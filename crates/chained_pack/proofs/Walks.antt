@@ -12,16 +12,12 @@ use Rattle.std.proofs.shelf.Tests.{cond-true, cond-false, cases-bool, cases-eq,
 use Rattle.std.specs.declared.option.Option.{Option}
 use Rattle.std.specs.declared.option.Option.the-variants.{Some, None}
 use Rattle.drive.specs.Search.{someOf}
+use Rattle.chained_pack.specs.Laws.{Apart}
 use Rattle.chained_pack.specs.Chains.{chainFrom, endFrom, eachOf, firstPass, recordBelow}
 
 pub cases-option : (o : Option ℕ) → (o ≡ None) ⊎ ((x : ℕ) × (o ≡ Some x))
 cases-option None = inl refl
 cases-option (Some x) = inr (x, refl)
-
--- no record twice
-abbrev pub Apart : List ℕ → Type 0
-Apart [] = Unit {0}
-Apart (i ∷ is) = (someOf (eqb i) is ≡ false) × Apart is
 
 -- lists of records
 module _ (test : ℕ → Bool) where

@@ -1,3 +1,4 @@
 pub mod Chains
 pub mod Format
 pub mod Lawful
+pub mod Laws

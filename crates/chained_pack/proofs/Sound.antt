@@ -110,11 +110,14 @@ module _ (d : Directory) where
       let parts = and-parts (everyBelow (chainClear d) k) (chainClear d k) clear in
       count-list (chainOf d k) (onBelow d k) (d .count) (apart-from (d .next) (d .count) (d .first k) (comes-to-end d k (parts .1)))
       (λ x on.
-      let use′ = on-use d k (parts .1) x on in
-      (use′ .0, use′ .1, ⊎-elim
-      (λ before. absurd (omega (arith, below-track k x (parts .0) before .0, on-track d k (parts .1) x on)))
-      (λ none. none)
-      (cases-bool (onBelow d k x))))
+      let use′ = on-use d k (parts .1) x on in (
+        use′ .0,
+        use′ .1,
+        ⊎-elim
+            (λ before. absurd (omega (arith, below-track k x (parts .0) before .0, on-track d k (parts .1) x on)))
+            (λ none. none)
+            (cases-bool (onBelow d k x)),
+      ))
       ∙ ap (λ (n : ℕ). n + length (chainOf d k)) (counted k (parts .0))
 
   -- none is left over exactly if the chains have as many records as are in use

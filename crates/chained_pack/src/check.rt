@@ -7,10 +7,10 @@ ghost use Rattle.chained_pack.specs.Lawful.{lengthClear, headerClear, recordCl
 use crate::chain::chains_clear;
 use crate::chain::places_once;
 use crate::layout::HEADER_BYTES;
-use crate::layout::HEADS_AT;
 use crate::layout::RECORD_BYTES;
 use crate::layout::count;
 use crate::layout::head;
+use crate::layout::heads;
 use basics::refusal::Refusal;
 use drive::geometry::CYLINDERS;
 use drive::geometry::PLACES;
@@ -48,9 +48,8 @@ fn record_clear(pack: &[u8], index: u16) -> bool
     requires { ⌜ 1 ≤ index ⌝ ∗ ⌜ startOf index + 268 ≤ length (now pack) ⌝ }
     ensures { λ r. ⌜ r ≡ recordClear (now (pack .entry)) index ⌝ }
 {
-    let heads = pack[HEADS_AT];
     let front = head(pack, index);
-    (front.track as u32) < CYLINDERS as u32 * heads as u32
+    (front.track as u32) < CYLINDERS as u32 * heads(pack) as u32
         && front.place < PLACES
         && front.id_condition <= 1
         && front.data_condition <= 1

@@ -2,7 +2,7 @@
 ghost use Prim.Native.Nat.{_+_, _*_, _≤_, _<_};
 ghost use lib.ListN.{length, drop};
 ghost use mathlib.Core.Path.{_≡_};
-ghost use Rattle.chained_pack.specs.Format.{wordAt, startOf, headAt, headOf, directory};
+ghost use Rattle.chained_pack.specs.Format.{wordAt, headsOf, startOf, headAt, headOf, directory};
 
 // bytes of the header: the text, the heads, a zero, the count of records in use, the first indexes
 pub(crate) const HEADER_BYTES: usize = 136;
@@ -10,13 +10,12 @@ pub(crate) const HEADER_BYTES: usize = 136;
 // bytes of a record: its front, the ID, the data
 pub(crate) const RECORD_BYTES: usize = 268;
 
-// where in the header the count of records in use stands, and the first indexes begin
+// where in the header the heads and the count of records in use stand, and the first indexes begin
+const HEADS_AT: usize = 4;
+
 const COUNT_AT: usize = 6;
 
 const FIRSTS_AT: usize = 8;
-
-// where in the header the heads stand
-pub(crate) const HEADS_AT: usize = 4;
 
 // where in a record the data condition stands, and the data begins
 pub(crate) const DATA_CONDITION_AT: usize = 6;
@@ -42,6 +41,14 @@ fn word_at(bytes: &[u8], at: usize) -> u16
     ensures { λ r. ⌜ r ≡ wordAt (now (bytes .entry)) at ⌝ }
 {
     bytes[at] as u16 * 256 + bytes[at + 1] as u16
+}
+
+// the heads of the drive
+pub(crate) fn heads(pack: &[u8]) -> u8
+    requires { ⌜ 136 ≤ length (now pack) ⌝ }
+    ensures { λ r. ⌜ r ≡ headsOf (now (pack .entry)) ⌝ }
+{
+    pack[HEADS_AT]
 }
 
 // the count of records in use
@@ -73,7 +80,17 @@ pub(crate) fn take_head(bytes: &[u8]) -> (RecordHead, &[u8])
     requires { ⌜ 268 ≤ length (now bytes) ⌝ }
     ensures { λ r. ⌜ (r .0 ≡ headAt (now (bytes .entry)) 0) × (now (r .1) ≡ drop 7 (now (bytes .entry))) ⌝ }
 {
-    let [next_high, next_low, track_high, track_low, place, id_condition, data_condition, rest @ ..] = bytes else {
+    let [
+        next_high,
+        next_low,
+        track_high,
+        track_low,
+        place,
+        id_condition,
+        data_condition,
+        rest @ ..,
+    ] = bytes
+    else {
         unreachable()
     };
     let head = RecordHead {

@@ -13,9 +13,9 @@ use crate::chain::find;
 use crate::chained::ChainedPack;
 use crate::layout::DATA_AT;
 use crate::layout::DATA_CONDITION_AT;
-use crate::layout::HEADS_AT;
 use crate::layout::RECORD_BYTES;
 use crate::layout::head;
+use crate::layout::heads;
 use crate::layout::start;
 use crate::layout::take_head;
 use basics::refusal::Refusal;
@@ -36,12 +36,13 @@ impl ChainedPack {
         ensures found { λ r. ⌜ r ≡ recordFor (vec-items (now (self .entry) .bytes)) track place ⌝ }
         ensures within { λ r. ⌜ Cases r (Unit {0}) (λ i. (1 ≤ i) × (startOf i + 268 ≤ vec-len (now (self .entry) .bytes))) ⌝ }
     {
-        let heads = self.bytes[HEADS_AT];
+        let bytes = self.bytes.as_slice();
+        let heads = heads(bytes);
         if track.cylinder >= CYLINDERS || track.head >= heads || place >= PLACES {
             return None;
         }
         let number = track.cylinder * heads as u16 + track.head as u16;
-        find(self.bytes.as_slice(), number, place)
+        find(bytes, number, place)
     }
 }
 
@@ -73,7 +74,7 @@ pub impl Drive for ChainedPack as ChainedPackDrive {
     ghost meaning = { λ d. chainedDisk (vec-items (d .bytes)) };
 
     fn heads(&self) -> u8 {
-        self.bytes[HEADS_AT]
+        heads(self.bytes.as_slice())
     }
 
     fn id(&self, track: Track, place: u8) -> IdField {
@@ -104,12 +105,7 @@ pub impl Drive for ChainedPack as ChainedPackDrive {
         Ok(&self.bytes[at + DATA_AT..at + RECORD_BYTES])
     }
 
-    fn write(
-        &mut self,
-        track: Track,
-        place: u8,
-        bytes: &[u8; SECTOR_BYTES],
-    ) -> Result<(), Refusal>
+    fn write(&mut self, track: Track, place: u8, bytes: &[u8; SECTOR_BYTES]) -> Result<(), Refusal>
         ensures answer { λ r. ⌜ r ≡ accepts (chainedDisk (vec-items (now (self .entry) .bytes))) track place ⌝ }
         ensures after { λ _. ⌜ chainedDisk (vec-items (now (self .exit) .bytes)) ≡ written (chainedDisk (vec-items (now (self .entry) .bytes))) track place (now (bytes .entry)) ⌝ }
         ensures refused { λ r. ⌜ (isErr r ≡ true → now (self .exit) ≡ now (self .entry)) ⌝ }

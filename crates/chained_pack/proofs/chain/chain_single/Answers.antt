@@ -37,9 +37,9 @@ loop-again c =
     let used = c .loop .inv .0 in (
       omega (arith, next-in-use d (c .pre .1 .0) i (omega arith) used, next),
       ap (λ (j : ℕ). eachOf (isFirst d) (chainFrom (d .next) (d .count - (c .loop .counter + 1)) j)) next
-      ∙ ap (λ (b : Bool). b && eachOf (isFirst d) (chainFrom (d .next) (d .count - (c .loop .counter + 1)) (d .next i))) (c .if-not-is-first .ensures tt)
-      ∙ sym (each-one d (isFirst d) (c .loop .counter) i (omega (arith, c .count-end .ensures)) (c .if-index-eq0 .left))
-      ∙ c .loop .inv .1,
+          ∙ ap (λ (b : Bool). b && eachOf (isFirst d) (chainFrom (d .next) (d .count - (c .loop .counter + 1)) (d .next i))) (c .if-not-is-first .ensures tt)
+          ∙ sym (each-one d (isFirst d) (c .loop .counter) i (omega (arith, c .count-end .ensures)) (c .if-index-eq0 .left))
+          ∙ c .loop .inv .1,
     )
 
 pub returns-after-loop : need.returns-after-loop

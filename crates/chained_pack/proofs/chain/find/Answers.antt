@@ -41,10 +41,10 @@ loop-again c =
     let used = c .loop .inv .0 in (
       omega (arith, next-in-use d (c .pre .1) i (omega arith) used, next),
       ap (λ (j : ℕ). firstPass test (chainFrom (d .next) (d .count - (c .loop .counter + 1)) j)) next
-      ∙ passed-one d test (c .loop .counter) i (omega (arith, c .count-end .ensures)) (c .if-index-eq0 .left)
-      (not-here d (c .args .track) (c .args .place) i (h .track) (h .place) (ap (λ (x : RecordHead). x .track) (c .head-front .ensures)) (ap (λ (x : RecordHead). x .place) (c .head-front .ensures))
-      (c .else-front-track .either))
-      ∙ c .loop .inv .1,
+          ∙ passed-one d test (c .loop .counter) i (omega (arith, c .count-end .ensures)) (c .if-index-eq0 .left)
+          (not-here d (c .args .track) (c .args .place) i (h .track) (h .place) (ap (λ (x : RecordHead). x .track) (c .head-front .ensures)) (ap (λ (x : RecordHead). x .place) (c .head-front .ensures))
+          (c .else-front-track .either))
+          ∙ c .loop .inv .1,
     )
 
 pub returns-after-loop : need.returns-after-loop

@@ -23,10 +23,12 @@ ghost-self c =
     let found = sym (c .in-Some .ensures tt .found) in
     let len = pack .bytes .ok .0 in
     let items = refilled-is (pack .bytes) (c .put-data .last .pack) (omega arith) ∙ c .put-data .ensures
-    ∙ ap₂ (λ (l : List ℕ) (at : ℕ). dataPut l at new) (c .as-mut-slice .ensures .value) (c .start .ensures) in
-    (ap isLawful items
-    ∙ lawful-kept b new i (omega arith) (found-low b (c .args .track) (c .args .place) i found)
-    (found-within b (c .args .track) (c .args .place) i found (clear-parts b (pack .lawful) .long)) (pack .lawful), tt)
+    ∙ ap₂ (λ (l : List ℕ) (at : ℕ). dataPut l at new) (c .as-mut-slice .ensures .value) (c .start .ensures) in (
+      ap isLawful items
+          ∙ lawful-kept b new i (omega arith) (found-low b (c .args .track) (c .args .place) i found)
+          (found-within b (c .args .track) (c .args .place) i found (clear-parts b (pack .lawful) .long)) (pack .lawful),
+      tt,
+    )
 
 pub returns : need.returns
 returns c =

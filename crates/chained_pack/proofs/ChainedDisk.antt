@@ -1,18 +1,18 @@
 -- What a chained pack's bytes mean, before and after a write. Assumes nothing.
-use mathlib.Core.Bool.{Bool, true, false, cond, _&&_, _||_}
+use mathlib.Core.Bool.{Bool, true, cond, _&&_}
 use mathlib.Core.List.{List}
 use mathlib.Core.Logic.{_⊎_, inl, inr, ⊎-elim}
-use mathlib.Core.Path.{_≡_, refl, sym, ap, ap₂, subst, _∙_, fun-ext}
+use mathlib.Core.Path.{_≡_, sym, ap, ap₂, _∙_, fun-ext}
 use Prim.Native.Nat.{ℕ, _+_, _-_, _*_, _/_, _%_, _<_, _≤_}
 use native.Mathlib.Nat.{mod-lt}
 use native.Mathlib.Omega.{arith}
 use lib.Dec.{eqb, ltb, leb, lit<}
 use lib.ListN.{length, getD, take, drop}
-use Rattle.std.proofs.shelf.Tests.{cond-true, cond-false, cases-bool, cases-eq, cases-lt, cases-order, both-ways, eq-eqb, eqb-true, and-parts, and-from, leb-true, le-leb}
+use Rattle.std.proofs.shelf.Tests.{cond-true, cond-false, cases-bool, cases-eq, cases-order, both-ways, eq-eqb, eqb-true, and-parts, and-from}
 use Rattle.std.specs.declared.option.Option.{Option}
 use Rattle.std.specs.declared.option.Option.the-variants.{Some, None}
 use Rattle.std.specs.Options.{Cases}
-use Rattle.drive.specs.Disk.{isGood, DataField, Sector, Disk, Lawful, onDrive, sameTrack, blank, withData, replaced}
+use Rattle.drive.specs.Disk.{isGood, Sector, Lawful, onDrive, sameTrack, withData, replaced}
 use Rattle.drive.specs.declared.geometry.Track.{Track}
 use Rattle.drive.specs.declared.sector.Condition.{Condition}
 use Rattle.drive.specs.declared.sector.IdField.{IdField}
@@ -25,8 +25,8 @@ use Rattle.pack.proofs.Numbers.{on-parts, one-track}
 use Rattle.pack.proofs.PlainDisk.{blank-long}
 use Rattle.chained_pack.specs.Chains.{Directory, chainsClear, placesOnce, recordOf, isAt}
 use Rattle.chained_pack.specs.Format.{wordAt, headsOf, startOf, headOf, directory, sectorAt, sectorOf, trackNumber, recordFor, chainedDisk, dataPut}
-use Rattle.chained_pack.specs.Lawful.{lengthClear, headerClear, recordClear, recordsClear, isLawful}
-use Rattle.chained_pack.proofs.Parts.{Clear, clear-parts, clear-from, room-for-used, heads-low, heads-high}
+use Rattle.chained_pack.specs.Lawful.{lengthClear, headerClear, recordClear, isLawful}
+use Rattle.chained_pack.proofs.Parts.{clear-parts, clear-from, room-for-used, heads-low, heads-high}
 use Rattle.chained_pack.proofs.Sound.{record-at}
 use Rattle.chained_pack.proofs.Walks.{cases-option, record-some}
 

@@ -3,12 +3,12 @@ use mathlib.Core.Bool.{Bool, true, false, _||_, cond}
 use mathlib.Core.List.{List, [], _∷_}
 use mathlib.Core.Logic.{⊎-elim}
 use mathlib.Core.Path.{_≡_, refl, sym, ap, ap₂, _∙_}
-use Prim.Native.Nat.{ℕ, zero, suc, _+_, _<_, _≤_}
+use Prim.Native.Nat.{ℕ, zero, suc, _+_, _≤_}
 use native.Mathlib.Nat.{add-zero}
 use native.Mathlib.Omega.{arith}
 use lib.Dec.{eqb}
 use lib.ListN.{length}
-use Rattle.std.proofs.shelf.Tests.{cond-true, cond-false, cases-bool, cases-eq, both-ways, eq-eqb, ne-eqb, eqb-true, and-parts, and-from, or-from, or-left, or-right}
+use Rattle.std.proofs.shelf.Tests.{cond-true, cond-false, cases-bool, cases-eq, both-ways, eq-eqb, ne-eqb, and-parts, and-from, or-from, or-left, or-right}
 use Rattle.drive.specs.Search.{someOf}
 use Rattle.drive.proofs.Searching.{or-assoc, or-none}
 use Rattle.pack.specs.Layout.{everyBelow}

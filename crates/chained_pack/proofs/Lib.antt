@@ -2,6 +2,7 @@ pub mod Fields
 pub mod Walks
 pub mod Counting
 pub mod Sound
+pub mod Loops
 pub mod Lengths
 pub mod Lookups
 pub mod Parts

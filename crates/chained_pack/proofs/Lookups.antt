@@ -1,7 +1,6 @@
 -- What is found along a chain, and by whom. Assumes nothing.
 use mathlib.Core.Bool.{Bool, true, false, not, _&&_}
-use mathlib.Core.List.{List, [], _∷_}
-use mathlib.Core.Logic.{_⊎_, inl, inr, ⊎-elim}
+use mathlib.Core.Logic.{_⊎_, ⊎-elim}
 use mathlib.Core.Path.{_≡_, refl, sym, ap, ap₂, _∙_}
 use Prim.Native.Nat.{ℕ, _+_, _-_, _%_, _<_, _≤_}
 use native.Mathlib.Nat.{mod-lt}
@@ -10,7 +9,6 @@ use lib.Dec.{eqb, lit<}
 use Rattle.std.proofs.shelf.Tests.{cond-true, cond-false, cases-bool, cases-eq, cases-order, both-ways, eq-eqb, eqb-true, and-parts, and-from, and-left, and-right, ne-eqb, false≢true, not-true, not-from-false}
 use Rattle.std.specs.declared.option.Option.{Option}
 use Rattle.std.specs.declared.option.Option.the-variants.{Some, None}
-use Rattle.drive.specs.Search.{someOf}
 use Rattle.pack.specs.Layout.{everyBelow}
 use Rattle.pack.proofs.Below.{every-at, every-from}
 use Rattle.chained_pack.specs.Chains.{Directory, chainFrom, chainOf, eachOf, everyRecord, chainClear, chainsClear, onChain, isAt, alike, placesOnce, recordOf, firstPass, foundOn, isIndex, isFirst}

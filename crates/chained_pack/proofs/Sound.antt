@@ -1,18 +1,17 @@
 -- What clear chains are: each record in use lies on the chain of its track, and on no other. Assumes nothing.
-use mathlib.Core.Bool.{Bool, true, false, not, _&&_, _||_, cond}
-use mathlib.Core.List.{List, [], _∷_}
-use mathlib.Core.Logic.{_⊎_, inl, inr, ⊎-elim}
-use mathlib.Core.Path.{_≡_, refl, sym, ap, ap₂, subst, _∙_}
+use mathlib.Core.Bool.{Bool, true, false, _&&_, _||_}
+use mathlib.Core.Logic.{⊎-elim}
+use mathlib.Core.Path.{_≡_, refl, sym, ap, _∙_}
 use Prim.Native.Nat.{ℕ, zero, suc, _+_, _-_, _%_, _<_, _≤_}
 use native.Mathlib.Nat.{mod-lt}
 use native.Mathlib.Omega.{arith}
 use lib.Dec.{eqb, leb, lit<}
 use lib.ListN.{length}
-use Rattle.std.proofs.shelf.Tests.{cond-true, cond-false, cases-bool, cases-eq, both-ways, eq-eqb, ne-eqb, eqb-true, false≢true, and-parts, and-from, or-cases, or-left, or-right, leb-true}
+use Rattle.std.proofs.shelf.Tests.{cases-bool, cases-eq, both-ways, eq-eqb, ne-eqb, eqb-true, false≢true, and-parts, or-cases, or-left, or-right, leb-true}
 use Rattle.drive.specs.Search.{someOf}
 use Rattle.pack.specs.Layout.{everyBelow}
-use Rattle.pack.proofs.Below.{every-at, every-fails}
-use Rattle.chained_pack.specs.Chains.{Directory, chainFrom, endFrom, eachOf, chainOf, everyRecord, belongs, chainClear, onChain, chainsClear}
+use Rattle.pack.proofs.Below.{every-at}
+use Rattle.chained_pack.specs.Chains.{Directory, chainFrom, endFrom, eachOf, chainOf, everyRecord, belongs, chainClear, onChain}
 use Rattle.chained_pack.proofs.Counting.{countTo, count-none, count-same, count-list, count-every, every-counted}
 use Rattle.chained_pack.proofs.Walks.{each-at, at-zero, from-more, apart-from}
 

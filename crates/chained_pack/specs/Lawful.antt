@@ -14,7 +14,7 @@ use Rattle.std.specs.declared.option.Option.{Option}
 use Rattle.std.specs.declared.option.Option.the-variants.{Some, None}
 use Rattle.basics.specs.declared.refusal.Refusal.{Refusal}
 use Rattle.basics.specs.declared.refusal.Refusal.the-variants.{Length, Header, Record, Chain, Double}
-use Rattle.chained_pack.specs.Chains.{Directory, everyRecord, chainsClear, placesOnce}
+use Rattle.chained_pack.specs.Chains.{everyRecord, chainsClear, placesOnce}
 use Rattle.chained_pack.specs.Format.{headsOf, headOf, directory}
 
 abbrev pub room : List ℕ → ℕ

@@ -1,8 +1,8 @@
 -- What a plain pack's bytes mean, before and after a write. Assumes nothing.
-use mathlib.Core.Bool.{Bool, true, false, cond, _&&_}
+use mathlib.Core.Bool.{true, false, _&&_}
 use mathlib.Core.List.{List}
 use mathlib.Core.Logic.{_≢_, inl, inr, ⊎-elim}
-use mathlib.Core.Path.{_≡_, refl, sym, ap, ap₂, _∙_, fun-ext}
+use mathlib.Core.Path.{_≡_, sym, ap, ap₂, _∙_, fun-ext}
 use Prim.Native.Nat.{ℕ, _+_, _*_, _<_, _≤_}
 use native.Mathlib.Nat.{add-zero}
 use native.Mathlib.Omega.{arith}
@@ -10,18 +10,17 @@ use lib.Dec.{eqb, lit<}
 use lib.ListN.{length, getD, set, take, drop, length-replicate}
 use lib.Seq.{paste}
 use Rattle.std.proofs.shelf.Lists.{getD-read}
-use Rattle.std.proofs.shelf.Tests.{cond-true, cond-false, cases-bool, cases-eq, both-ways, eq-eqb, cases-lt}
-use Rattle.drive.specs.Disk.{isGood, DataField, Sector, Disk, Lawful, onDrive, sameTrack, noBytes, blank, withData, replaced}
+use Rattle.std.proofs.shelf.Tests.{cond-true, cond-false, cases-bool, both-ways, cases-lt}
+use Rattle.drive.specs.Disk.{isGood, Sector, Lawful, onDrive, sameTrack, noBytes, blank, withData, replaced}
 use Rattle.drive.specs.declared.geometry.Track.{Track}
 use Rattle.drive.specs.declared.sector.Condition.{Condition}
-use Rattle.drive.specs.declared.sector.Condition.the-variants.{Good}
 use Rattle.drive.specs.declared.sector.IdField.{IdField}
 use Rattle.drive.specs.declared.sector.SectorId.{SectorId}
 use Rattle.pack.specs.Layout.{conditionOf, idOf}
 use Rattle.pack.specs.Plain.{placeNumber, sectorAt, plainDisk}
 use Rattle.pack.proofs.Bytes.{id-from, getD-part, length-part, part-same}
 use Rattle.pack.proofs.DataPut.{length-put, kept-put, cleared-put, entered-put}
-use Rattle.pack.proofs.Numbers.{On, on-parts, place-within, one-place, same-on, same-number}
+use Rattle.pack.proofs.Numbers.{on-parts, place-within, one-place, same-on, same-number}
 
 made : SectorId → Condition → List ℕ → Condition → Sector
 made i c d e = record { id = record { id = i; condition = c }; datum = record { bytes = d; condition = e } }

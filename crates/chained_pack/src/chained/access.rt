@@ -8,7 +8,7 @@ ghost use Rattle.std.specs.Options.{Cases};
 ghost use Rattle.std.specs.Results.{isErr};
 ghost use Rattle.drive.specs.Disk.{accepts, written};
 ghost use Rattle.pack.specs.Layout.{conditionOf, idOf};
-ghost use Rattle.chained_pack.specs.Format.{startOf, headsOf, recordFor, chainedDisk, dataPut, bytesAfter};
+ghost use Rattle.chained_pack.specs.Format.{startOf, recordFor, chainedDisk, dataPut, bytesAfter};
 use crate::chain::find;
 use crate::chained::ChainedPack;
 use crate::layout::DATA_AT;

@@ -5,7 +5,7 @@ ghost use Rattle.std.specs.Results.{Cases};
 ghost use Rattle.std.specs.declared.option.Option.the-variants.{Some, None};
 ghost use Rattle.chained_pack.specs.Format.{directory};
 ghost use Rattle.chained_pack.specs.Lawful.{chainedFault};
-ghost use Rattle.chained_pack.specs.Laws.{Orderly};
+ghost use Rattle.chained_pack.specs.Laws.{Loopless, Orderly};
 use crate::chained::ChainedPack;
 use crate::check::fault;
 use basics::handed_back::HandedBack;
@@ -14,6 +14,7 @@ impl ChainedPack {
     // Takes over the bytes, or hands them back with what is wrong with them.
     pub fn open(bytes: Vec<u8>) -> Result<ChainedPack, HandedBack<Vec<u8>>>
         ensures opened { λ r. ⌜ Cases r (λ p. (chainedFault (vec-items bytes) ≡ None) × (p .bytes ≡ bytes)) (λ e. (chainedFault (vec-items bytes) ≡ Some (e .refusal)) × (e .given ≡ bytes)) ⌝ }
+        ensures loops { λ _. ⌜ Loopless ⌝ }
         ensures orderly { λ r. ⌜ Cases r (λ p. Orderly (directory (vec-items (p .bytes)))) (λ _. Unit {0}) ⌝ }
     {
         match fault(bytes.as_slice()) {

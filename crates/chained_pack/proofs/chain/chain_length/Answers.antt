@@ -1,5 +1,5 @@
-use mathlib.Core.Path.{_≡_, sym, ap, subst, _∙_}
-use Prim.Native.Nat.{ℕ, _+_, _%_, _<_, _≤_}
+use mathlib.Core.Path.{sym, ap, subst, _∙_}
+use Prim.Native.Nat.{_+_, _%_}
 use native.Mathlib.Omega.{arith}
 use Rattle.chained_pack.specs.Format.{directory}
 use Rattle.chained_pack.proofs.Lengths.{Measured, at-first, measured-all, past-use, too-many, wrong-chain, measured-more}

@@ -1,5 +1,3 @@
-use Prim.Native.Nat.{_≤_}
-use mathlib.Core.Path.{_≡_}
 use Rattle.chained_pack.specs.Format.{directory}
 use Rattle.chained_pack.proofs.Lengths.{Measured}
 use Rattle.chained_pack.proofs.chain.chain_length.Given as given

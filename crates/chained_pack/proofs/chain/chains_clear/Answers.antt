@@ -1,13 +1,13 @@
 use mathlib.Core.Bool.{Bool, true, _&&_}
 use mathlib.Core.Path.{_≡_, sym, ap, ap₂, _∙_}
-use Prim.Native.Nat.{ℕ, _+_, _*_, _%_, _≤_}
+use Prim.Native.Nat.{ℕ, _+_, _%_, _≤_}
 use native.Mathlib.Omega.{arith}
 use lib.Dec.{eqb}
 use lib.ListN.{length}
-use Rattle.std.proofs.shelf.Tests.{and-left, cond-true}
+use Rattle.std.proofs.shelf.Tests.{and-left}
 use Rattle.pack.proofs.Below.{every-none, every-more, every-fails}
 use Rattle.pack.specs.Layout.{everyBelow}
-use Rattle.chained_pack.specs.Chains.{chainOf, everyRecord, chainClear, onChain}
+use Rattle.chained_pack.specs.Chains.{everyRecord, chainClear, onChain}
 use Rattle.chained_pack.specs.Format.{directory}
 use Rattle.chained_pack.proofs.Sound.{lengthsBelow, lengths-none, lengths-more, none-left}
 use Rattle.chained_pack.proofs.Walks.{length-from}

@@ -1,10 +1,10 @@
 use mathlib.Core.Logic.{inl, inr}
-use mathlib.Core.Path.{_≡_, refl, sym, ap, ap₂, subst, _∙_}
-use Prim.Native.Nat.{ℕ, _+_, _-_, _%_, _≤_}
+use mathlib.Core.Path.{_≡_, sym, ap, ap₂, _∙_}
+use Prim.Native.Nat.{ℕ, _+_, _-_, _%_}
 use native.Mathlib.Omega.{arith}
 use native.Mathlib.Nat.{mod-lt}
 use lib.Dec.{lit<}
-use Rattle.chained_pack.specs.Chains.{chainFrom, firstPass, foundOn, isAt}
+use Rattle.chained_pack.specs.Chains.{chainFrom, firstPass, isAt}
 use Rattle.chained_pack.specs.Format.{directory}
 use Rattle.chained_pack.specs.declared.layout.RecordHead.{RecordHead}
 use Rattle.chained_pack.proofs.Lookups.{first-in-use, next-in-use, passed-none, passed-one, hit-one, is-here, not-here}

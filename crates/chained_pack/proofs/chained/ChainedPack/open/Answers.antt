@@ -1,11 +1,8 @@
-use borrow.Author.Needs.{needs}
-use mathlib.Core.Bool.{true}
-use mathlib.Core.Path.{_≡_, refl, sym, ap, _∙_}
-use mathlib.Core.List.{List}
-use Prim.Native.Nat.{ℕ}
+use mathlib.Core.Path.{refl, sym, ap, _∙_}
 use Rattle.chained_pack.specs.Format.{directory}
-use Rattle.chained_pack.specs.Lawful.{chainedFault, isLawful}
+use Rattle.chained_pack.specs.Lawful.{chainedFault}
 use Rattle.chained_pack.proofs.Lookups.{orderly}
+use Rattle.chained_pack.proofs.Loops.{loopless}
 use Rattle.chained_pack.proofs.Parts.{no-fault}
 use Rattle.chained_pack.proofs.chained.ChainedPack.open.Needs as need
 
@@ -16,5 +13,13 @@ returns-in-None c =
     let p = no-fault b none in
     record {
       opened = (none, refl);
+      loops = loopless;
       orderly = orderly (directory b) (p .chains) (p .once);
     }
+
+pub returns-in-Some : need.returns-in-Some
+returns-in-Some c = record {
+  opened = (ap chainedFault (sym (c .as-slice .ensures .value)) ∙ sym (c .in-Some .ensures tt), refl);
+  loops = loopless;
+  orderly = tt;
+}

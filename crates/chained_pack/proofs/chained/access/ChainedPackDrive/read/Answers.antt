@@ -1,10 +1,10 @@
 use mathlib.Core.List.{List}
-use mathlib.Core.Path.{_≡_, sym, ap, ap₂, _∙_}
+use mathlib.Core.Path.{_≡_, sym, ap, _∙_}
 use Prim.Native.Nat.{ℕ, _+_, _-_}
 use native.Mathlib.Omega.{arith}
 use lib.ListN.{getD}
 use Rattle.std.proofs.shelf.Tests.{cond-true}
-use Rattle.chained_pack.specs.Format.{startOf, headOf}
+use Rattle.chained_pack.specs.Format.{headOf}
 use Rattle.chained_pack.specs.declared.layout.RecordHead.{RecordHead}
 use Rattle.chained_pack.proofs.ChainedDisk.{good-here, data-read}
 use Rattle.chained_pack.proofs.chained.access.ChainedPackDrive.read.Needs as need

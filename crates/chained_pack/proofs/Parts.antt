@@ -1,14 +1,15 @@
 -- What a lawful pack has. Assumes nothing.
-use mathlib.Core.Bool.{Bool, true, false, _&&_, _||_, cond}
+use mathlib.Core.Bool.{Bool, true, false, not, _&&_, _||_, cond}
 use mathlib.Core.List.{List}
 use mathlib.Core.Logic.{⊎-elim}
-use mathlib.Core.Path.{_≡_, refl}
+use mathlib.Core.Path.{_≡_, refl, ap, _∙_}
 use Prim.Native.Nat.{ℕ, _+_, _*_, _<_, _≤_}
 use native.Mathlib.Omega.{arith}
 use lib.Arith.{digits-lt}
 use lib.Dec.{eqb, leb}
 use lib.ListN.{length, getD}
-use Rattle.std.proofs.shelf.Tests.{and-parts, and-from, or-cases, eqb-true, leb-true}
+use Rattle.std.proofs.shelf.Tests.{cond-true, false≢true, and-parts, or-cases, eqb-true, leb-true}
+use Rattle.std.specs.Options.{isSome}
 use Rattle.std.specs.declared.option.Option.{Option}
 use Rattle.std.specs.declared.option.Option.the-variants.{Some, None}
 use Rattle.basics.specs.declared.refusal.Refusal.{Refusal}
@@ -24,21 +25,33 @@ pub record Clear (b : List ℕ) : Type 0 where
   pub chains : chainsClear (directory b) ≡ true
   pub once : placesOnce (directory b) ≡ true
 
+-- a test that does not give the fault was passed
+passed : (t : Bool) (x : Refusal) (rest : Option Refusal) → cond t rest (Some x) ≡ None → (t ≡ true) × (rest ≡ None)
+passed true x rest none = (refl, none)
+passed false x rest none = let z : _≡_ {A = ℕ} 0 1 = cc in absurd (omega arith)
+
+pub no-fault : (b : List ℕ) → chainedFault b ≡ None → Clear b
+no-fault b none =
+    let l = passed (lengthClear b) Length _ none in
+    let h = passed (headerClear b) Header _ (l .1) in
+    let r = passed (recordsClear b) Record _ (h .1) in
+    let c = passed (chainsClear (directory b)) Chain _ (r .1) in
+    let d = passed (placesOnce (directory b)) Double _ (c .1) in
+    record { long = l .0; header = h .0; records = r .0; chains = c .0; once = d .0 }
+
+none-from : (o : Option Refusal) → not (isSome o) ≡ true → o ≡ None
+none-from None none = refl
+none-from (Some x) none = absurd (false≢true none)
+
 module _ (b : List ℕ) where
   pub clear-parts : isLawful b ≡ true → Clear b
-  clear-parts lawful =
-      let a = and-parts (lengthClear b && headerClear b && recordsClear b && chainsClear (directory b)) (placesOnce (directory b)) lawful in
-      let c = and-parts (lengthClear b && headerClear b && recordsClear b) (chainsClear (directory b)) (a .0) in
-      let d = and-parts (lengthClear b && headerClear b) (recordsClear b) (c .0) in
-      let e = and-parts (lengthClear b) (headerClear b) (d .0) in
-      record { long = e .0; header = e .1; records = d .1; chains = c .1; once = a .1 }
+  clear-parts lawful = no-fault b (none-from (chainedFault b) lawful)
 
   pub clear-from : Clear b → isLawful b ≡ true
   clear-from c =
-      and-from (lengthClear b && headerClear b && recordsClear b && chainsClear (directory b)) (placesOnce (directory b))
-      (and-from (lengthClear b && headerClear b && recordsClear b) (chainsClear (directory b))
-      (and-from (lengthClear b && headerClear b) (recordsClear b) (and-from (lengthClear b) (headerClear b) (c .long) (c .header)) (c .records)) (c .chains))
-      (c .once)
+      ap (λ (o : Option Refusal). not (isSome o))
+      (cond-true (lengthClear b) _ _ (c .long) ∙ cond-true (headerClear b) _ _ (c .header) ∙ cond-true (recordsClear b) _ _ (c .records)
+      ∙ cond-true (chainsClear (directory b)) _ _ (c .chains) ∙ cond-true (placesOnce (directory b)) _ _ (c .once))
 
   pub room-for-used : lengthClear b ≡ true → 136 + directory b .count * 268 ≤ length b
   room-for-used long =
@@ -66,17 +79,3 @@ module _ (b : List ℕ) where
 -- the number of a track on the drive
 pub track-small : (c d h : ℕ) → c < 303 → d < h → h ≤ 3 → c * h + d < 909
 track-small c d h hc hd high = let tracks : c * h + d < 303 * h = digits-lt hc hd in omega arith
-
--- a test that does not give the fault was passed
-passed : (t : Bool) (x : Refusal) (rest : Option Refusal) → cond t rest (Some x) ≡ None → (t ≡ true) × (rest ≡ None)
-passed true x rest none = (refl, none)
-passed false x rest none = let z : _≡_ {A = ℕ} 0 1 = cc in absurd (omega arith)
-
-pub no-fault : (b : List ℕ) → chainedFault b ≡ None → Clear b
-no-fault b none =
-    let l = passed (lengthClear b) Length _ none in
-    let h = passed (headerClear b) Header _ (l .1) in
-    let r = passed (recordsClear b) Record _ (h .1) in
-    let c = passed (chainsClear (directory b)) Chain _ (r .1) in
-    let d = passed (placesOnce (directory b)) Double _ (c .1) in
-    record { long = l .0; header = h .0; records = r .0; chains = c .0; once = d .0 }

@@ -4,6 +4,7 @@
 --   startOf       where a record begins
 --   headOf        the front of a record: next index (2), track (2), place, ID condition, data condition
 --   directory     the count of records in use (bytes 6 and 7), the 64 first indexes (from byte 8), and what each record says of its chain
+--   HasUsed       there is room for the records in use
 --   sectorAt      what a record that begins at an index holds: behind the front the ID (5) and the data (256)
 --   recordFor     the record of a place on the drive; its track is cylinder × heads + head
 --   chainedDisk   what a chained pack means: a place with no record is blank
@@ -11,8 +12,8 @@
 --   bytesAfter    the bytes after a write, which is accepted exactly where the ID is good
 use mathlib.Core.Bool.{cond}
 use mathlib.Core.List.{List}
-use Prim.Native.Nat.{ℕ, _+_, _-_, _*_, _%_}
-use lib.ListN.{getD, set, take, drop}
+use Prim.Native.Nat.{ℕ, _+_, _-_, _*_, _%_, _≤_}
+use lib.ListN.{length, getD, set, take, drop}
 use lib.Seq.{paste}
 use Rattle.std.specs.declared.option.Option.{Option}
 use Rattle.std.specs.declared.option.Option.the-variants.{Some, None}
@@ -52,6 +53,9 @@ directory bytes = record {
   track = λ i. headOf bytes i .track;
   place = λ i. headOf bytes i .place;
 }
+
+abbrev pub HasUsed : List ℕ → Type 0
+HasUsed bytes = 136 + directory bytes .count * 268 ≤ length bytes
 
 abbrev pub sectorAt : List ℕ → ℕ → Sector
 sectorAt bytes at = record {

@@ -4,12 +4,13 @@
 --   headerClear    the text 4962, two or three heads, the zero
 --   recordsClear   of each record in use: its track and place are on the drive, and both conditions are 0 or 1
 --   chainedFault   why bytes are no chained pack, if they are none: each rule is kept by the whole pack before the next is looked at
---   isLawful       bytes that are a chained pack
-use mathlib.Core.Bool.{Bool, _&&_, _||_, cond}
+--   isLawful       bytes that are a chained pack: there is no fault
+use mathlib.Core.Bool.{Bool, not, _&&_, _||_, cond}
 use mathlib.Core.List.{List}
 use Prim.Native.Nat.{ℕ, _+_, _-_, _*_, _/_}
 use lib.Dec.{eqb, leb, ltb}
 use lib.ListN.{length, getD}
+use Rattle.std.specs.Options.{isSome}
 use Rattle.std.specs.declared.option.Option.{Option}
 use Rattle.std.specs.declared.option.Option.the-variants.{Some, None}
 use Rattle.basics.specs.declared.refusal.Refusal.{Refusal}
@@ -53,5 +54,4 @@ chainedFault bytes =
     (Some Length)
 
 abbrev pub isLawful : List ℕ → Bool
-isLawful bytes =
-    lengthClear bytes && headerClear bytes && recordsClear bytes && chainsClear (directory bytes) && placesOnce (directory bytes)
+isLawful bytes = not (isSome (chainedFault bytes))

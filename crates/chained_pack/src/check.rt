@@ -2,7 +2,7 @@
 ghost use Prim.Native.Nat.{_+_, _*_, _≤_};
 ghost use lib.ListN.{length};
 ghost use mathlib.Core.Path.{_≡_};
-ghost use Rattle.chained_pack.specs.Format.{directory, startOf};
+ghost use Rattle.chained_pack.specs.Format.{HasUsed, startOf};
 ghost use Rattle.chained_pack.specs.Lawful.{lengthClear, headerClear, recordClear, recordsClear, chainedFault};
 use crate::chain::chains_clear;
 use crate::chain::places_once;
@@ -57,7 +57,7 @@ fn record_clear(pack: &[u8], index: u16) -> bool
 
 // whether every record in use is clear
 fn records_clear(pack: &[u8]) -> bool
-    requires { ⌜ 136 + directory (now pack) .count * 268 ≤ length (now pack) ⌝ }
+    requires { ⌜ HasUsed (now pack) ⌝ }
     ensures { λ r. ⌜ r ≡ recordsClear (now (pack .entry)) ⌝ }
 {
     for index in 1..=count(pack) {

@@ -26,11 +26,11 @@ pub id-at : (d : Disk) (t : Track) (p : ℕ) (f : IdField) → p < 60 → getD (
 unfolding ids
 id-at d t p f h = getD-map-counting (λ q. d .sector t q .id) 0 60 p p f h (zero-add p)
 
-or-assoc : (a b c : Bool) → (a || (b || c)) ≡ ((a || b) || c)
+pub or-assoc : (a b c : Bool) → (a || (b || c)) ≡ ((a || b) || c)
 or-assoc true b c = refl
 or-assoc false b c = refl
 
-or-none : (a : Bool) → (a || false) ≡ a
+pub or-none : (a : Bool) → (a || false) ≡ a
 or-none true = refl
 or-none false = refl
 

@@ -39,3 +39,9 @@ module _ (test : ℕ → Bool) where
   every-at (suc n) i all below =
       let parts = and-parts (everyBelow test n) (test n) all in
       ⊎-elim (λ e. ap test e ∙ parts .1) (λ ne. every-at n i (parts .0) (omega arith)) (cases-eq i n)
+
+  pub every-from : (n : ℕ) → ((i : ℕ) → i < n → test i ≡ true) → everyBelow test n ≡ true
+  unfolding everyBelow
+  every-from zero each = refl
+  every-from (suc n) each =
+      and-from (everyBelow test n) (test n) (every-from n (λ i below. each i (omega arith))) (each n (omega arith))

@@ -1,26 +1,26 @@
 -- What a plain pack's bytes mean, before and after a write. Assumes nothing.
-use mathlib.Core.Bool.{Bool, true, false, cond, _&&_}
+use mathlib.Core.Bool.{true, false, _&&_}
 use mathlib.Core.List.{List}
-use mathlib.Core.Logic.{_≢_, ⊎-elim}
-use mathlib.Core.Path.{_≡_, refl, sym, ap, ap₂, _∙_, fun-ext}
+use mathlib.Core.Logic.{_≢_, inl, inr, ⊎-elim}
+use mathlib.Core.Path.{_≡_, sym, ap, ap₂, _∙_, fun-ext}
 use Prim.Native.Nat.{ℕ, _+_, _*_, _<_, _≤_}
 use native.Mathlib.Nat.{add-zero}
 use native.Mathlib.Omega.{arith}
 use lib.Dec.{eqb, lit<}
 use lib.ListN.{length, getD, set, take, drop, length-replicate}
 use lib.Seq.{paste}
-use Rattle.std.proofs.shelf.Lists.{length-set, getD-set-same, getD-set-other, getD-read, ext-getD}
-use Rattle.std.proofs.shelf.Tests.{cond-true, cond-false, cases-bool, cases-eq, both-ways, eq-eqb, cases-lt}
-use Rattle.drive.specs.Disk.{isGood, DataField, Sector, Disk, Lawful, onDrive, sameTrack, noBytes, blank, withData, replaced}
+use Rattle.std.proofs.shelf.Lists.{getD-read}
+use Rattle.std.proofs.shelf.Tests.{cond-true, cond-false, cases-bool, both-ways, cases-lt}
+use Rattle.drive.specs.Disk.{isGood, Sector, Lawful, onDrive, sameTrack, noBytes, blank, withData, replaced}
 use Rattle.drive.specs.declared.geometry.Track.{Track}
 use Rattle.drive.specs.declared.sector.Condition.{Condition}
-use Rattle.drive.specs.declared.sector.Condition.the-variants.{Good}
 use Rattle.drive.specs.declared.sector.IdField.{IdField}
 use Rattle.drive.specs.declared.sector.SectorId.{SectorId}
 use Rattle.pack.specs.Layout.{conditionOf, idOf}
 use Rattle.pack.specs.Plain.{placeNumber, sectorAt, plainDisk}
-use Rattle.pack.proofs.Bytes.{id-from, getD-part, length-part, part-same, getD-paste-below, getD-paste-in, getD-paste-above, length-pasted}
-use Rattle.pack.proofs.Numbers.{On, on-parts, place-within, one-place, same-on, same-number}
+use Rattle.pack.proofs.Bytes.{id-from, getD-part, length-part, part-same}
+use Rattle.pack.proofs.DataPut.{length-put, kept-put, cleared-put, entered-put}
+use Rattle.pack.proofs.Numbers.{on-parts, place-within, one-place, same-on, same-number}
 
 made : SectorId → Condition → List ℕ → Condition → Sector
 made i c d e = record { id = record { id = i; condition = c }; datum = record { bytes = d; condition = e } }
@@ -36,7 +36,7 @@ sector-from b c m wb wc same =
     (part-same c b (m * 264 + 8) (m * 264 + 8) 256 (omega arith) (omega arith) (λ k h. same (m * 264 + 8 + k) (omega arith) (omega arith)))
     (same (m * 264 + 1) (omega arith) (omega arith))
 
-blank-long : length noBytes ≡ 256
+pub blank-long : length noBytes ≡ 256
 unfolding noBytes
 blank-long = length-replicate {A = ℕ} 256 0
 
@@ -63,40 +63,28 @@ pub afterWrite : List ℕ → ℕ → List ℕ → List ℕ
 afterWrite b at new = paste (set b (at + 1) 0) (at + 8) new 256
 
 module _ (b new : List ℕ) (at : ℕ) (size : length new ≡ 256) (within : at + 264 ≤ length b) where
-  room : at + 8 + 256 ≤ length (set b (at + 1) 0)
-  room = rw (length-set b (at + 1) 0) (omega arith)
-
   pub length-written : length (afterWrite b at new) ≡ length b
   unfolding afterWrite
-  length-written = length-pasted (set b (at + 1) 0) new (at + 8) 256 size room ∙ length-set b (at + 1) 0
+  length-written = length-put b new (at + 1) (at + 8) size (omega arith) (omega arith)
 
   head-kept : (j : ℕ) → j < at + 8 → j ≢ at + 1 → getD (afterWrite b at new) j 0 ≡ getD b j 0
   unfolding afterWrite
-  head-kept j below ne =
-      getD-paste-below (set b (at + 1) 0) new (at + 8) 256 size room j below ∙ getD-set-other b (at + 1) j 0 0 ne
+  head-kept j below ne = kept-put b new (at + 1) (at + 8) size (omega arith) (omega arith) j ne (inl below)
 
   pub kept-below : (j : ℕ) → j < at → getD (afterWrite b at new) j 0 ≡ getD b j 0
   kept-below j below = head-kept j (omega arith) (omega arith)
 
   pub kept-above : (j : ℕ) → at + 264 ≤ j → getD (afterWrite b at new) j 0 ≡ getD b j 0
   unfolding afterWrite
-  kept-above j above =
-      let ne : j ≢ at + 1 = omega arith in
-      getD-paste-above (set b (at + 1) 0) new (at + 8) 256 size room j (omega arith) ∙ getD-set-other b (at + 1) j 0 0 ne
+  kept-above j above = kept-put b new (at + 1) (at + 8) size (omega arith) (omega arith) j (omega arith) (inr (omega arith))
 
   cleared : getD (afterWrite b at new) (at + 1) 0 ≡ 0
   unfolding afterWrite
-  cleared =
-      getD-paste-below (set b (at + 1) 0) new (at + 8) 256 size room (at + 1) (omega arith) ∙ getD-set-same b (at + 1) 0 0 (omega arith)
+  cleared = cleared-put b new (at + 1) (at + 8) size (omega arith) (omega arith)
 
   entered : take 256 (drop (at + 8) (afterWrite b at new)) ≡ new
   unfolding afterWrite
-  entered =
-      let part = length-part (afterWrite b at new) (at + 8) 256 (rw length-written (omega arith)) in
-      ext-getD 0 _ new (part ∙ sym size)
-      (λ k h.
-      let small : k < 256 = omega (arith, part) in
-      getD-part (afterWrite b at new) (at + 8) 256 k small ∙ getD-paste-in (set b (at + 1) 0) new (at + 8) 256 size room k small)
+  entered = entered-put b new (at + 1) (at + 8) size (omega arith) (omega arith)
 
   pub sector-written : (n : ℕ) → n * 264 ≡ at → sectorAt (afterWrite b at new) n ≡ withData new (sectorAt b n)
   unfolding made

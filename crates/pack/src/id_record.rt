@@ -5,7 +5,19 @@ ghost use mathlib.Core.Path.{_≡_};
 ghost use Rattle.std.specs.Options.{Cases};
 ghost use Rattle.pack.specs.Layout.{conditionOf, idOf};
 use drive::sector::Condition;
+use drive::sector::IdField;
 use drive::sector::SectorId;
+
+// what stands for an ID where none is recorded
+pub const NO_ID: IdField = IdField {
+    id: SectorId {
+        flag: 0,
+        cylinder: 0,
+        head: 0,
+        sector: 0,
+    },
+    condition: Condition::Spoiled,
+};
 
 // Takes an ID record apart: flag, cylinder (high byte first), head and sector, and the rest.
 pub fn take_id(bytes: &[u8]) -> Option<(SectorId, &[u8])>

@@ -9,6 +9,7 @@ ghost use Rattle.std.specs.Options.{Cases};
 ghost use Rattle.drive.specs.Disk.{onDrive};
 ghost use Rattle.pack.specs.Layout.{conditionOf, idOf};
 ghost use Rattle.pack.specs.Plain.{placeNumber, plainDisk};
+use crate::id_record::NO_ID;
 use crate::id_record::condition;
 use crate::id_record::take_id;
 use crate::plain_pack::DATA_AT;
@@ -22,7 +23,6 @@ use drive::geometry::SECTOR_BYTES;
 use drive::geometry::Track;
 use drive::sector::Condition;
 use drive::sector::IdField;
-use drive::sector::SectorId;
 
 impl PlainPack {
     // where the bytes of a place begin, if it is on the drive
@@ -38,17 +38,6 @@ impl PlainPack {
         Some(number * PLACE_BYTES)
     }
 }
-
-// what a place off the drive has for an ID
-const NO_ID: IdField = IdField {
-    id: SectorId {
-        flag: 0,
-        cylinder: 0,
-        head: 0,
-        sector: 0,
-    },
-    condition: Condition::Spoiled,
-};
 
 // The ID of a place, by its bytes.
 fn id_field(place: &[u8]) -> IdField

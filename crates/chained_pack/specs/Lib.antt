@@ -1,0 +1,4 @@
+pub mod Chains
+pub mod Format
+pub mod Lawful
+pub mod Laws

@@ -1,0 +1,3 @@
+// Tests of the chained pack, on small packs and damaged ones.
+#[cfg(test)]
+mod tests;

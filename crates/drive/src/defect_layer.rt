@@ -1,13 +1,14 @@
 // The defect layer: a drive below, with up to 32 marks that each spoil the ID or the data of a place.
-ghost use mathlib.Core.Bool.{true, cond};
+ghost use mathlib.Core.Bool.{true, false, cond};
 ghost use mathlib.Core.List.{[]};
 ghost use mathlib.Core.Path.{_≡_};
 ghost use Rattle.std.specs.Results.{isErr};
 ghost use Rattle.std.specs.declared.result.Result.the-variants.{Ok};
 ghost use Rattle.basics.specs.Marks.{has, without, entered, entering};
 ghost use Rattle.basics.specs.Table.{held};
-ghost use Rattle.drive.specs.Disk.{onDrive};
-ghost use Rattle.drive.specs.Defects.{sameDefect, spoiledIf, defectDisk, placeMark};
+ghost use Rattle.drive.specs.Disk.{onDrive, accepts, written};
+ghost use Rattle.drive.specs.Defects.{sameDefect, defectOf, spoiledIf, defectDisk, placeMark};
+ghost use Rattle.drive.specs.declared.defect.Field.the-variants.{Data};
 use crate::defect::Defect;
 use crate::defect::DefectMark;
 use crate::defect::Field;
@@ -64,6 +65,7 @@ impl<D: Drive> DefectLayer<D> {
         ensures below { λ _. ⌜ now (self .exit) .below ≡ now (self .entry) .below ⌝ }
         ensures marks { λ _. ⌜ held (now (self .exit) .marks) ≡ cond (onDrive (D·Drive .meaning (now (self .entry) .below) .heads) (defect .track) (defect .place)) (entered sameDefect 32 defect (held (now (self .entry) .marks))) (held (now (self .entry) .marks)) ⌝ }
         ensures refused { λ r. ⌜ (isErr r ≡ true → now (self .exit) ≡ now (self .entry)) ⌝ }
+        ensures again { λ _. ⌜ (has sameDefect defect (held (now (self .entry) .marks)) ≡ true → now (self .exit) ≡ now (self .entry)) ⌝ }
     {
         if !self.is_on(defect.track, defect.place) {
             return Err(Refusal::NoSuchPlace);
@@ -77,6 +79,7 @@ impl<D: Drive> DefectLayer<D> {
         ensures below { λ _. ⌜ now (self .exit) .below ≡ now (self .entry) .below ⌝ }
         ensures marks { λ _. ⌜ held (now (self .exit) .marks) ≡ cond (onDrive (D·Drive .meaning (now (self .entry) .below) .heads) (defect .track) (defect .place)) (without sameDefect defect (held (now (self .entry) .marks))) (held (now (self .entry) .marks)) ⌝ }
         ensures refused { λ r. ⌜ (isErr r ≡ true → now (self .exit) ≡ now (self .entry)) ⌝ }
+        ensures unmarked { λ _. ⌜ (has sameDefect defect (held (now (self .entry) .marks)) ≡ false → now (self .exit) ≡ now (self .entry)) ⌝ }
     {
         if !self.is_on(defect.track, defect.place) {
             return Err(Refusal::NoSuchPlace);
@@ -144,13 +147,14 @@ pub impl<D: Drive> Drive for DefectLayer<D> as DefectLayerDrive {
         self.below.read(track, place)
     }
 
-    // An accepted write lifts the data mark of its place.
-    fn write(
-        &mut self,
-        track: Track,
-        place: u8,
-        bytes: &[u8; SECTOR_BYTES],
-    ) -> Result<(), Refusal> {
+    // Besides what every drive owes: an accepted write goes to the drive below, and lifts the data mark of its place alone.
+    fn write(&mut self, track: Track, place: u8, bytes: &[u8; SECTOR_BYTES]) -> Result<(), Refusal>
+        ensures answer { λ r. ⌜ r ≡ accepts (defectDisk (held (now (self .entry) .marks)) (D·Drive .meaning (now (self .entry) .below))) track place ⌝ }
+        ensures after { λ _. ⌜ defectDisk (held (now (self .exit) .marks)) (D·Drive .meaning (now (self .exit) .below)) ≡ written (defectDisk (held (now (self .entry) .marks)) (D·Drive .meaning (now (self .entry) .below))) track place (now (bytes .entry)) ⌝ }
+        ensures refused { λ r. ⌜ (isErr r ≡ true → now (self .exit) ≡ now (self .entry)) ⌝ }
+        ensures below { λ r. ⌜ (isErr r ≡ false → D·Drive .meaning (now (self .exit) .below) ≡ written (D·Drive .meaning (now (self .entry) .below)) track place (now (bytes .entry))) ⌝ }
+        ensures marks { λ r. ⌜ (isErr r ≡ false → held (now (self .exit) .marks) ≡ without sameDefect (defectOf Data track place) (held (now (self .entry) .marks))) ⌝ }
+    {
         let marked = self.is_marked(Defect {
             field: Field::Id,
             track,

@@ -6,7 +6,8 @@ ghost use mathlib.Core.Bool.{true, false};
 ghost use mathlib.Core.Path.{_≡_};
 ghost use Rattle.std.specs.Of.Vec.{vec-items, vec-len};
 ghost use Rattle.std.specs.Options.{Cases};
-ghost use Rattle.drive.specs.Disk.{onDrive};
+ghost use Rattle.std.specs.Results.{isErr};
+ghost use Rattle.drive.specs.Disk.{onDrive, accepts, written};
 ghost use Rattle.pack.specs.Layout.{conditionOf, idOf};
 ghost use Rattle.pack.specs.Plain.{placeNumber, plainDisk};
 use crate::id_record::NO_ID;
@@ -96,12 +97,13 @@ pub impl Drive for PlainPack as PlainPackDrive {
         Ok(&self.bytes[at + DATA_AT..at + PLACE_BYTES])
     }
 
-    fn write(
-        &mut self,
-        track: Track,
-        place: u8,
-        bytes: &[u8; SECTOR_BYTES],
-    ) -> Result<(), Refusal> {
+    // Besides what every drive owes: of the pack's bytes only the data and their condition change.
+    fn write(&mut self, track: Track, place: u8, bytes: &[u8; SECTOR_BYTES]) -> Result<(), Refusal>
+        ensures answer { λ r. ⌜ r ≡ accepts (plainDisk (now (self .entry) .heads) (vec-items (now (self .entry) .bytes))) track place ⌝ }
+        ensures after { λ _. ⌜ plainDisk (now (self .exit) .heads) (vec-items (now (self .exit) .bytes)) ≡ written (plainDisk (now (self .entry) .heads) (vec-items (now (self .entry) .bytes))) track place (now (bytes .entry)) ⌝ }
+        ensures refused { λ r. ⌜ (isErr r ≡ true → now (self .exit) ≡ now (self .entry)) ⌝ }
+        ensures kept { λ r. ⌜ (isErr r ≡ false → vec-items (now (self .exit) .bytes) ≡ paste (set (vec-items (now (self .entry) .bytes)) (placeNumber (now (self .entry) .heads) track place * 264 + 1) 0) (placeNumber (now (self .entry) .heads) track place * 264 + 8) (now (bytes .entry)) 256) ⌝ }
+    {
         let Some(at) = self.start(track, place) else {
             return Err(Refusal::NoSuchPlace);
         };

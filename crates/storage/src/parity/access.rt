@@ -1,13 +1,14 @@
 // Words are marked, lifted and asked for; reading a marked word that is allowed below is a storage data check.
 ghost use lib.Dec.{eqb};
-ghost use mathlib.Core.Bool.{true, cond};
+ghost use Prim.Native.Nat.{_%_};
+ghost use mathlib.Core.Bool.{true, false, cond};
 ghost use mathlib.Core.List.{[]};
 ghost use mathlib.Core.Path.{_≡_};
 ghost use Rattle.std.specs.Results.{isErr};
 ghost use Rattle.std.specs.declared.result.Result.the-variants.{Ok};
 ghost use Rattle.basics.specs.Marks.{has, without, entered, entering};
 ghost use Rattle.basics.specs.Table.{held};
-ghost use Rattle.storage.specs.Memory.{isWord};
+ghost use Rattle.storage.specs.Memory.{isWord, stored};
 ghost use Rattle.storage.specs.Makes.{parityMemory, wordMark};
 use crate::parity::Parity;
 use crate::storage::Storage;
@@ -41,6 +42,7 @@ impl<S: Storage> Parity<S> {
         ensures below { λ _. ⌜ now (self .exit) .below ≡ now (self .entry) .below ⌝ }
         ensures marks { λ _. ⌜ held (now (self .exit) .marks) ≡ cond (isWord (S·Storage .meaning (now (self .entry) .below) .size) address) (entered eqb 16 address (held (now (self .entry) .marks))) (held (now (self .entry) .marks)) ⌝ }
         ensures refused { λ r. ⌜ (isErr r ≡ true → now (self .exit) ≡ now (self .entry)) ⌝ }
+        ensures again { λ _. ⌜ (has eqb address (held (now (self .entry) .marks)) ≡ true → now (self .exit) ≡ now (self .entry)) ⌝ }
     {
         if !self.is_word(address) {
             return Err(Refusal::NoSuchPlace);
@@ -54,6 +56,7 @@ impl<S: Storage> Parity<S> {
         ensures below { λ _. ⌜ now (self .exit) .below ≡ now (self .entry) .below ⌝ }
         ensures marks { λ _. ⌜ held (now (self .exit) .marks) ≡ cond (isWord (S·Storage .meaning (now (self .entry) .below) .size) address) (without eqb address (held (now (self .entry) .marks))) (held (now (self .entry) .marks)) ⌝ }
         ensures refused { λ r. ⌜ (isErr r ≡ true → now (self .exit) ≡ now (self .entry)) ⌝ }
+        ensures unmarked { λ _. ⌜ (has eqb address (held (now (self .entry) .marks)) ≡ false → now (self .exit) ≡ now (self .entry)) ⌝ }
     {
         if !self.is_word(address) {
             return Err(Refusal::NoSuchPlace);
@@ -84,7 +87,13 @@ pub impl<S: Storage> Storage for Parity<S> as ParityStorage {
         Ok(word)
     }
 
-    fn store(&mut self, address: u32, key: u8, word: u16) -> Result<(), Fault> {
+    // Besides what every storage owes: the marks stay.
+    fn store(&mut self, address: u32, key: u8, word: u16) -> Result<(), Fault>
+        ensures verdict { λ r. ⌜ r ≡ parityMemory (held (now (self .entry) .marks)) (S·Storage .meaning (now (self .entry) .below)) .stores address (key % 8) ⌝ }
+        ensures after { λ _. ⌜ parityMemory (held (now (self .exit) .marks)) (S·Storage .meaning (now (self .exit) .below)) ≡ stored (parityMemory (held (now (self .entry) .marks)) (S·Storage .meaning (now (self .entry) .below))) address (key % 8) word ⌝ }
+        ensures refused { λ r. ⌜ (isErr r ≡ true → now (self .exit) ≡ now (self .entry)) ⌝ }
+        ensures marks { λ _. ⌜ now (self .exit) .marks ≡ now (self .entry) .marks ⌝ }
+    {
         self.below.store(address, key, word)
     }
 }

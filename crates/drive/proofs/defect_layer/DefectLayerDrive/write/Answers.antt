@@ -20,4 +20,6 @@ returns g c =
       after = ap₂ defectDisk (c .lift .ensures .after) (below .after ∙ cond-true _ (replaced d t p (c .args .bytes .now)) d good)
           ∙ write-through (c .args .bytes .now) marks d t p ∙ sym (cond-true _ _ _ shown);
       refused = λ e. absurd (false≢true e);
+      below = λ e. below .after;
+      marks = λ e. c .lift .ensures .after;
     }

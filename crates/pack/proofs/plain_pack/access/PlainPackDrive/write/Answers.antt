@@ -27,4 +27,5 @@ returns c =
           ∙ plain-written (pack .heads) (pack .bytes .items) new (pack .low) (pack .high) (sym len ∙ pack .long) (omega arith) (c .args .track) (c .args .place) (at .0)
           ∙ sym (cond-true _ _ _ good);
       refused = λ e. absurd (false≢true e);
+      kept = λ e. items;
     }

@@ -1,14 +1,13 @@
 -- A table of marks, by the list of marks that it holds, the oldest first.
 --   has       whether a list of marks has a mark, by the marks' own test
 --   without   the list with a mark taken out
---   held      the marks that a table holds
 --   entered   the marks after one was to be entered: as before if it is there or no entry is free, else one more, the newest
 --   entering  what the table answers to that
 use mathlib.Core.Bool.{Bool, true, false, cond, not, _||_}
 use mathlib.Core.List.{List, [], _∷_, _++_}
 use Prim.Native.Nat.{ℕ}
 use lib.Dec.{ltb}
-use lib.ListN.{length, take}
+use lib.ListN.{length}
 use Rattle.std.specs.shelf.Lists.{kept-by}
 use Rattle.std.specs.declared.result.Result.{Result}
 use Rattle.std.specs.declared.result.Result.the-variants.{Ok, Err}

@@ -1,4 +1,6 @@
-// The console: a recipe is put into a sector of a fresh cylinder, read back and compared, and the track is listed.
+// The console: a recipe is put into a sector of a fresh cylinder, read back and compared, and the track is listed;
+// then a sector of a chained pack is spoiled by a mark and healed by a write.
+mod heal;
 mod recipe;
 mod show;
 
@@ -65,7 +67,8 @@ fn run(rt: &LibcRuntime) -> Result<(), AnyError> {
         "read back into storage: {alike} of {} words are alike",
         recipe::WORDS
     )?;
-    show::track(rt, &pack, track)
+    show::track(rt, &pack, track)?;
+    heal::run(rt, track)
 }
 
 fn main(rt: LibcRuntime) -> Result<(), AnyError> {

@@ -1,4 +1,5 @@
 // A recipe in storage, on its way to a sector and back.
+ghost use Prim.Native.Nat.{_<_};
 use basics::fault::Fault;
 use drive::drive::Drive;
 use drive::geometry::SECTOR_BYTES;
@@ -44,7 +45,7 @@ fn find<D: Drive>(drive: &D, track: Track, sector: u8) -> Result<u8, AnyError> {
     }
 }
 
-// the words from an address on as the bytes of a sector, the rest zero
+// the words of the recipe as the bytes of a sector, the rest zero
 fn gather<S: Storage>(storage: &S) -> Result<[u8; SECTOR_BYTES], Fault> {
     let mut bytes = [0u8; SECTOR_BYTES];
     for i in 0..WORDS {
@@ -102,11 +103,10 @@ pub fn read_back<S: Storage, D: Drive>(
 }
 
 // whether word i was read back as it was entered
-fn same<S: Storage>(storage: &S, i: u32) -> bool {
-    match (
-        storage.load(ENTERED.saturating_add(i.saturating_mul(2)), KEY),
-        storage.load(READ_BACK.saturating_add(i.saturating_mul(2)), KEY),
-    ) {
+fn same<S: Storage>(storage: &S, i: u32) -> bool
+    requires { ⌜ i < 6 ⌝ }
+{
+    match (storage.load(ENTERED + 2 * i, KEY), storage.load(READ_BACK + 2 * i, KEY)) {
         (Ok(entered), Ok(back)) => entered == back,
         _ => false,
     }

@@ -12,19 +12,30 @@ fn word(condition: Condition) -> &'static str {
     }
 }
 
-// One line a place: the ID with its condition, and the condition of the data.
+// One place: the ID with its condition, and the condition of the data.
+pub fn place<D: Drive>(
+    rt: &LibcRuntime,
+    drive: &D,
+    track: Track,
+    place: u8,
+) -> Result<(), AnyError> {
+    let field = drive.id(track, place);
+    let id = field.id;
+    let data = word(drive.data_condition(track, place));
+    print!(rt, "place {place:02}: id {} ", word(field.condition))?;
+    println!(
+        rt,
+        "{:02X} {:04X} {:02X} {:02X} data {data}",
+        id.flag, id.cylinder, id.head, id.sector
+    )?;
+    Ok(())
+}
+
+// The sixty places of a track, a line each.
 pub fn track<D: Drive>(rt: &LibcRuntime, drive: &D, track: Track) -> Result<(), AnyError> {
     println!(rt, "cylinder {} head {}", track.cylinder, track.head)?;
-    for place in 0..PLACES {
-        let field = drive.id(track, place);
-        let id = field.id;
-        let data = word(drive.data_condition(track, place));
-        print!(rt, "place {place:02}: id {} ", word(field.condition))?;
-        println!(
-            rt,
-            "{:02X} {:04X} {:02X} {:02X} data {data}",
-            id.flag, id.cylinder, id.head, id.sector
-        )?;
+    for p in 0..PLACES {
+        place(rt, drive, track, p)?;
     }
     Ok(())
 }

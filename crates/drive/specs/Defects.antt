@@ -1,6 +1,8 @@
 -- The defect layer: a drive below, with marks that each spoil the ID or the data of a place.
 --   sameField, sameDefect   tests on fields and defects
+--   defectOf                the defect of a field of a place
 --   spoils                  whether a list of marks spoils a field of a place
+--   spoiledIf               a condition under a mark, or under none
 --   withDefects             a sector whose fields are spoiled or not
 --   defectDisk              what the layer means: a mark changes a condition and no byte
 --   placeMark               what entering or lifting a mark answers: a mark goes on a place of the drive

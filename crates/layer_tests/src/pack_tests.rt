@@ -21,7 +21,7 @@ const TWO: usize = 9_599_040;
 
 const THREE: usize = 14_398_560;
 
-// The place of each sector of a fresh track, as the machine's chart of logical and physical sectors has it.
+// Each logical sector with its physical place, as the disk's own chart pairs them.
 const CHART: [(u8, u8); 60] = [
     (0x00, 0x00),
     (0x1E, 0x01),

@@ -3,6 +3,9 @@
 --   sectorAt       the sector of place n: ID condition, data condition, the ID's five bytes, a zero, 256 bytes of data
 --   plainDisk      what a plain pack means
 --   headsOf        the heads by the length: two or three, or none where the length is not lawful
+--   zeroClear, conditionsClear   what is tested of a place: its zero byte, its two conditions
+--   placesFault    what the places are refused by, if by anything
+--   inPlaces       the same behind the test of the length
 --   plainFault     why bytes are no plain pack, if they are none: first the length, then any zero byte, then any condition
 use mathlib.Core.Bool.{Bool, _&&_, cond}
 use mathlib.Core.List.{List}

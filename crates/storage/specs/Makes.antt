@@ -1,8 +1,11 @@
 -- What each make of storage means, and when it can be made.
 --   lawfulSize     the sizes that a storage can have: even, 2 to 65,536
 --   wordAt         the word at an address of a list of bytes, high byte first; zero where none stands
+--   inside         a verdict where a word stands, and invalid elsewhere
 --   plainMemory    plain storage: every word may be read and stored with every key
+--   andThen        the first verdict, and the second where the first allows the access
 --   guarded        a storage below, with a second verdict on what it allows
+--   keyVerdict     what the key of an address's block says to a key
 --   keyedMemory    storage in blocks with a key each: the block's key and key 0 open it
 --   parityMemory   a storage below, where reading a marked word is a storage data check
 --   wordMark       what entering or lifting a parity mark answers: a mark goes on a word

@@ -45,6 +45,7 @@ headAt bytes at = record {
 abbrev pub headOf : List ℕ → ℕ → RecordHead
 headOf bytes i = headAt bytes (startOf i)
 
+-- chains are counted mod 64, so that every number has its first index in the header
 abbrev pub directory : List ℕ → Directory
 directory bytes = record {
   count = wordAt bytes 6;

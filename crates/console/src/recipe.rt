@@ -106,7 +106,10 @@ pub fn read_back<S: Storage, D: Drive>(
 fn same<S: Storage>(storage: &S, i: u32) -> bool
     requires { ⌜ i < 6 ⌝ }
 {
-    match (storage.load(ENTERED + 2 * i, KEY), storage.load(READ_BACK + 2 * i, KEY)) {
+    match (
+        storage.load(ENTERED + 2 * i, KEY),
+        storage.load(READ_BACK + 2 * i, KEY),
+    ) {
         (Ok(entered), Ok(back)) => entered == back,
         _ => false,
     }

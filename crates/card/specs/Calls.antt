@@ -149,5 +149,8 @@ abbrev pub served : Card → Option Waiting → Turn
 served c (Some w) = turn (withWaiting None c) (Interrupt w)
 served c None = turn c NothingWaits
 
+abbrev pub serviced : Card → Turn
+serviced c = cond (c .enabled) (served c (c .waiting)) (turn c NothingWaits)
+
 abbrev pub service : Card → Act Turn
-service c = done (cond (c .enabled) (served c (c .waiting)) (turn c NothingWaits))
+service c = done (serviced c)

@@ -1,13 +1,15 @@
 -- A run: any list of the six calls over one card started new.
 --   call   the rule of a call
 --   run    the rules of a list of calls, one after the other
-use mathlib.Core.List.{List, [], _∷_}
+--   callsOf, answersOf   the calls of a list of entries, and the answers beside them
+use mathlib.Core.List.{List, [], _∷_, map}
 use Rattle.card.specs.Acts.{Act, done, then}
 use Rattle.card.specs.Calls.{Turn, command, halt, store, readiness, service}
 use Rattle.card.specs.Steps.{step}
 use Rattle.card.specs.declared.answer.Answer.{Answer}
 use Rattle.card.specs.declared.call.Call.{Call}
 use Rattle.card.specs.declared.call.Call.the-variants.{Command, Halt, Store, Readiness, Service, Step}
+use Rattle.card.specs.declared.entry.Entry.{Entry}
 use Rattle.card.specs.declared.registers.Card.{Card}
 
 abbrev pub call : Card → Call → Act Turn
@@ -25,3 +27,9 @@ pub record Ran : Type 0 where
 unfoldable pub run : Card → List Call → Act Ran
 run c [] = done record { card = c; answers = [] }
 run c (x ∷ xs) = then (call c x) (λ t. then (run (t .card) xs) (λ r. done record { card = r .card; answers = t .answer ∷ r .answers }))
+
+abbrev pub callsOf : List Entry → List Call
+callsOf entries = map (λ e. e .call) entries
+
+abbrev pub answersOf : List Entry → List Answer
+answersOf entries = map (λ e. e .answer) entries

@@ -5,7 +5,7 @@ ghost use Prim.Native.Nat.{ℕ};
 ghost use Rattle.storage.specs.Memory.{Memory};
 ghost use Rattle.drive.specs.Disk.{Disk};
 ghost use Rattle.card.specs.Acts.{ends, ended, world};
-ghost use Rattle.card.specs.Calls.{newCard, turn, isIdle, isBusy, reset, commandOf, meetsBusy, accepted, command, halt, store, readiness, service};
+ghost use Rattle.card.specs.Calls.{newCard, turn, isIdle, isBusy, reset, commandOf, meetsBusy, accepted, command, store, readiness, serviced};
 use crate::answer::Answer;
 use crate::answer::CommandRefusal;
 use crate::call::Command;
@@ -163,7 +163,7 @@ impl Card {
 
     // Halt I/O.
     pub(crate) fn halt(&mut self) -> Answer
-        ensures { λ r. ⌜ ((v : ℕ) (d : Disk) (m : Memory) → ends (halt (now (self .entry))) (world v d m) ≡ ended (turn (now (self .exit)) r) (world v d m)) ⌝ }
+        ensures { λ r. ⌜ turn (now (self .exit)) r ≡ turn (reset (now (self .entry))) Answer.Done ⌝ }
     {
         self.reset();
         Answer::Done
@@ -185,7 +185,7 @@ impl Card {
 
     // The waiting interrupt is handed over.
     pub(crate) fn service(&mut self) -> Answer
-        ensures { λ r. ⌜ ((v : ℕ) (d : Disk) (m : Memory) → ends (service (now (self .entry))) (world v d m) ≡ ended (turn (now (self .exit)) r) (world v d m)) ⌝ }
+        ensures { λ r. ⌜ turn (now (self .exit)) r ≡ serviced (now (self .entry)) ⌝ }
     {
         if !self.enabled {
             return Answer::NothingWaits;

@@ -2,3 +2,4 @@ pub mod Transfers
 pub mod Stepping
 pub mod SectorBytes
 pub mod Running
+pub mod Sending

@@ -6,3 +6,5 @@ pub mod Calls
 pub mod Steps
 pub mod Runs
 pub mod Examples
+pub mod Places
+pub mod Laws

@@ -3,3 +3,6 @@ pub mod Stepping
 pub mod SectorBytes
 pub mod Running
 pub mod Sending
+pub mod Safe
+pub mod Covering
+pub mod Untouched

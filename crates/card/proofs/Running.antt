@@ -34,7 +34,7 @@ module _ (start : Card) (first now : List Entry) (w : World) where
   pub running-none : first ≡ now → Running start first now w w 0 start
   running-none same = record {
     calls = ap callsOf (sym same);
-    so-far = ap (λ (l : List Entry). ends (run start (callsOf l)) w) same
+    so-far = ap (λ (l : List Entry). ends (run start (callsOf l)) w) same;
   }
 
   module _ (w′ w″ : World) (i : ℕ) (c c′ : Card) (r : Running start first now w w′ i c) (e : Entry) (a : Answer) (within : i < length now) (here : getD now i e ≡ e) (came : ends (call c (e .call)) w′ ≡ ended (turn c′ a) w″) where
@@ -55,15 +55,15 @@ module _ (start : Card) (first now : List Entry) (w : World) where
         let next : callsOf (drop i now) ≡ e .call ∷ callsOf rest = ap callsOf (drop-more now i e within ∙ ap (λ (x : Entry). x ∷ rest) here) in
         let kept : rest ≡ drop (i + 1) (set now i record { call = e .call; answer = a }) = sym (drop-set-lt (i + 1) now i record { call = e .call; answer = a } (omega arith)) in
         let front : answersOf (take i now) ++ a ∷ [] ≡ answersOf (take (i + 1) (set now i record { call = e .call; answer = a })) =
-          sym (ap answersOf (take-more-set now i record { call = e .call; answer = a } within) ∙ map-append (λ (x : Entry). x .answer) (take i now) (record { call = e .call; answer = a } ∷ [])) in
+        sym (ap answersOf (take-more-set now i record { call = e .call; answer = a } within) ∙ map-append (λ (x : Entry). x .answer) (take i now) (record { call = e .call; answer = a } ∷ [])) in
         let tail : Ended Ran = ends (run c′ (callsOf rest)) w″ in
         record {
           calls = same-calls ∙ r .calls;
           so-far = r .so-far
-            ∙ ap (λ (l : List Call). answered (answersOf (take i now)) (ends (run c l) w′)) next
-            ∙ ap (answered (answersOf (take i now))) (run-more c c′ (e .call) a (callsOf rest) w′ w″ came)
-            ∙ ap (λ (l : List Answer). ended record { card = tail .result .card; answers = l } (tail .world)) (sym (append-assoc (answersOf (take i now)) (a ∷ []) (tail .result .answers)))
-            ∙ ap₂ (λ (given : List Answer) (l : List Entry). answered given (ends (run c′ (callsOf l)) w″)) front kept
+              ∙ ap (λ (l : List Call). answered (answersOf (take i now)) (ends (run c l) w′)) next
+              ∙ ap (answered (answersOf (take i now))) (run-more c c′ (e .call) a (callsOf rest) w′ w″ came)
+              ∙ ap (λ (l : List Answer). ended record { card = tail .result .card; answers = l } (tail .world)) (sym (append-assoc (answersOf (take i now)) (a ∷ []) (tail .result .answers)))
+              ∙ ap₂ (λ (given : List Answer) (l : List Entry). answered given (ends (run c′ (callsOf l)) w″)) front kept;
         }
 
   pub running-all : (w′ : World) (i : ℕ) (c : Card) → Running start first now w w′ i c → length now ≤ i → ends (run start (callsOf first)) w ≡ ended record { card = c; answers = answersOf now } w′
@@ -74,6 +74,6 @@ module _ (start : Card) (first now : List Entry) (w : World) where
 
   -- the same, with the entry as it is read at any default
   pub running-read : (w′ w″ : World) (i : ℕ) (c c′ : Card) (r : Running start first now w w′ i c) (z : Entry) (a : Answer) → i < length now
-    → ends (call c (getD now i z .call)) w′ ≡ ended (turn c′ a) w″ → Running start first (set now i record { call = getD now i z .call; answer = a }) w w″ (i + 1) c′
+      → ends (call c (getD now i z .call)) w′ ≡ ended (turn c′ a) w″ → Running start first (set now i record { call = getD now i z .call; answer = a }) w w″ (i + 1) c′
   running-read w′ w″ i c c′ r z a within came =
       running-more w′ w″ i c c′ r (getD now i z) a within (sym (getD-default now i z (getD now i z) within)) came

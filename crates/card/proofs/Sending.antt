@@ -19,7 +19,7 @@ use Rattle.card.specs.Laws.{LastSent, Alike, AlikeWhere}
 use Rattle.card.specs.Places.{Place, word-place, data-place, Content, a-word, a-field, placeOf, contentOf, samePlace, holds, goesTo, someTo, noneTo, Agree}
 
 -- one thing after the other is put into a world
-pub puts : List Sent → World → World
+unfoldable pub puts : List Sent → World → World
 puts [] w = w
 puts (s ∷ ss) w = puts ss (put s w)
 
@@ -68,11 +68,11 @@ puts-last (x ∷ before) after s w pl here none = puts-last before after s (put 
 pub last-sent : {A : Type 0} (a : Act A) (w : World) → LastSent w (ends a w .world) (sent a w)
 last-sent a w = record {
   last = λ pl before after s all here none.
-    ap (λ (u : World). holds u pl) (ends-puts a w ∙ ap (λ (ss : List Sent). puts ss w) all) ∙ puts-last before after s w pl here none;
-  kept = λ pl none. ap (λ (u : World). holds u pl) (ends-puts a w) ∙ puts-none (sent a w) w pl none
+      ap (λ (u : World). holds u pl) (ends-puts a w ∙ ap (λ (ss : List Sent). puts ss w) all) ∙ puts-last before after s w pl here none;
+  kept = λ pl none. ap (λ (u : World). holds u pl) (ends-puts a w) ∙ puts-none (sent a w) w pl none;
 }
 
-ids-kept : (d : Disk) (t u : Track) (p : ℕ) (new : List ℕ) → ids (replaced d t p new) u ≡ ids d u
+pub ids-kept : (d : Disk) (t u : Track) (p : ℕ) (new : List ℕ) → ids (replaced d t p new) u ≡ ids d u
 unfolding ids
 ids-kept d t u p new = ap (λ (f : ℕ → IdField). map f (counting 0 60)) (fun-ext (λ q. pick (sameTrack u t && eqb q p) (d .sector u q))) where
   pick : (b : Bool) (s : Sector) → cond b (withData new s) s .id ≡ s .id
@@ -136,10 +136,10 @@ puts-alike (s ∷ ss) w u pl some =
     ⊎-elim
     (λ later. puts-alike ss (put s w) (put s u) pl later)
     (λ none.
-      let here = ⊎-elim (λ e. e) (λ e. absurd (both-ways (someTo pl ss) none e)) (or-cases (goesTo pl s) (someTo pl ss) some) in
-      let clear = not-from-false (someTo pl ss) none in
-      puts-none ss (put s u) pl clear ∙ put-holds s u pl ∙ cond-true (goesTo pl s) (contentOf s) (holds u pl) here
-      ∙ sym (puts-none ss (put s w) pl clear ∙ put-holds s w pl ∙ cond-true (goesTo pl s) (contentOf s) (holds w pl) here))
+    let here = ⊎-elim (λ e. e) (λ e. absurd (both-ways (someTo pl ss) none e)) (or-cases (goesTo pl s) (someTo pl ss) some) in
+    let clear = not-from-false (someTo pl ss) none in
+    puts-none ss (put s u) pl clear ∙ put-holds s u pl ∙ cond-true (goesTo pl s) (contentOf s) (holds u pl) here
+    ∙ sym (puts-none ss (put s w) pl clear ∙ put-holds s w pl ∙ cond-true (goesTo pl s) (contentOf s) (holds w pl) here))
     (cases-bool (someTo pl ss))
 
 -- two starts that agree on all that is looked at from the first
@@ -149,7 +149,7 @@ alike-where a w u agree =
     record {
       same = run .0;
       places = λ pl either.
-        let some = ⊎-elim (λ e. e) (λ e. ap (someTo pl) (sym (run .1)) ∙ e) either in
-        ap (λ (x : World). holds x pl) (ends-puts a u ∙ ap (λ (ss : List Sent). puts ss u) (run .1))
-        ∙ puts-alike (sent a w) w u pl some ∙ sym (ap (λ (x : World). holds x pl) (ends-puts a w))
+          let some = ⊎-elim (λ e. e) (λ e. ap (someTo pl) (sym (run .1)) ∙ e) either in
+          ap (λ (x : World). holds x pl) (ends-puts a u ∙ ap (λ (ss : List Sent). puts ss u) (run .1))
+          ∙ puts-alike (sent a w) w u pl some ∙ sym (ap (λ (x : World). holds x pl) (ends-puts a w));
     }

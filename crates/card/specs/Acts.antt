@@ -22,6 +22,7 @@ use Rattle.drive.specs.declared.sector.Condition.{Condition}
 use Rattle.drive.specs.declared.sector.IdField.{IdField}
 use Rattle.card.specs.declared.control_block.Block.{Block}
 use Rattle.card.specs.declared.registers.Position.{Position}
+use Rattle.card.specs.declared.registers.Purpose.{Purpose}
 
 pub record World : Type 0 where
   pub device : ℕ
@@ -55,8 +56,9 @@ pub data Sent : Type 0 where
   to-word : ℕ → ℕ → Sent
   to-sector : Track → ℕ → List ℕ → Sent
 
--- a control block executed, with the position of the heads at that moment
+-- a control block executed: for which command, and at which position of the heads
 pub record Executed : Type 0 where
+  pub purpose : Purpose
   pub block : Block
   pub position : Position
 

@@ -7,4 +7,5 @@ pub mod Steps
 pub mod Runs
 pub mod Examples
 pub mod Places
+pub mod Named
 pub mod Laws

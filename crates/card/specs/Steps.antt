@@ -59,16 +59,16 @@ deviceEnd device c = turn (withWaiting (interrupt 3 0 device) (inState Idle c)) 
 abbrev pub finished : Card → Block → Act Turn
 finished c b = cond (chaining b) (done (chainedTurn c b)) (ask device-address (λ v. done (deviceEnd v c)))
 
-abbrev pub executes : Card → Block → State → Act Turn
-executes c b s = execute record { block = b; position = c .position } (done (turn (inState s c) Stepped))
+abbrev pub executes : Purpose → Card → Block → State → Act Turn
+executes p c b s = execute record { purpose = p; block = b; position = c .position } (done (turn (inState s c) Stepped))
 
 -- the head of a seek has to be on the drive; no other operation looks at the head count
 abbrev pub checkedHead : Card → Block → Operation → Act Turn
-checkedHead c b Seek = ask head-count (λ h. cond (ltb (head b) h) (executes c b (Moving b)) (failed c (b .address) SpecificationCheck))
-checkedHead c b Recalibrate = executes c b (Moving b)
-checkedHead c b ReadData = executes c b (Sector b 0)
-checkedHead c b WriteData = executes c b (Sector b 0)
-checkedHead c b ReadVerify = executes c b (Sector b 0)
+checkedHead c b Seek = ask head-count (λ h. cond (ltb (head b) h) (executes ForOperation c b (Moving b)) (failed c (b .address) SpecificationCheck))
+checkedHead c b Recalibrate = executes ForOperation c b (Moving b)
+checkedHead c b ReadData = executes ForOperation c b (Sector b 0)
+checkedHead c b WriteData = executes ForOperation c b (Sector b 0)
+checkedHead c b ReadVerify = executes ForOperation c b (Sector b 0)
 
 abbrev pub checkedOperation : Card → Block → Option Operation → Act Turn
 checkedOperation c b (Some o) = cond (lawful o b) (checkedHead c b o) (failed c (b .address) SpecificationCheck)
@@ -76,7 +76,7 @@ checkedOperation c b None = failed c (b .address) SpecificationCheck
 
 abbrev pub checked : Purpose → Card → Block → Act Turn
 checked ForOperation c b = checkedOperation c b (operationOf (modifier b))
-checked ForStatus c b = cond (lawfulStatus b) (executes c b (Status b)) (failed c (b .address) SpecificationCheck)
+checked ForStatus c b = cond (lawfulStatus b) (executes ForStatus c b (Status b)) (failed c (b .address) SpecificationCheck)
 
 -- what Start Cycle Steal Status fetches does not count for the residual address
 abbrev pub residualFor : Purpose → Card → ℕ → Card

@@ -1,4 +1,4 @@
-// The card: its registers, the six calls and what they answer.
+// The card: its registers, the six calls and what they answer, and runs of them.
 pub mod answer;
 pub mod call;
 mod calls;
@@ -6,7 +6,7 @@ pub mod control_block;
 pub mod entry;
 pub mod examples;
 pub mod registers;
-mod runs;
+pub mod runs;
 mod sectors;
 mod steps;
 mod transfer;

@@ -1,8 +1,8 @@
 // A run: a list of calls over one card started new, one drive and one storage.
-ghost use mathlib.Core.List.{map};
 ghost use mathlib.Core.Path.{_≡_};
 ghost use Rattle.card.specs.Acts.{ends, ended, world};
 ghost use Rattle.card.specs.Calls.{turn, newCard};
+ghost use Rattle.card.specs.Laws.{RunLaw};
 ghost use Rattle.card.specs.Runs.{call, run, callsOf, answersOf};
 use crate::answer::Answer;
 use crate::call::Call;
@@ -14,7 +14,13 @@ use storage::storage::Storage;
 
 impl Card {
     // Carries out one call.
-    fn carry_out<D: Drive, S: Storage>(&mut self, device: u8, drive: &mut D, storage: &mut S, asked: Call) -> Answer
+    fn carry_out<D: Drive, S: Storage>(
+        &mut self,
+        device: u8,
+        drive: &mut D,
+        storage: &mut S,
+        asked: Call,
+    ) -> Answer
         ensures { λ r. ⌜ ends (call (now (self .entry)) asked) (world device (D·Drive .meaning (now (drive .entry))) (S·Storage .meaning (now (storage .entry)))) ≡ ended (turn (now (self .exit)) r) (world device (D·Drive .meaning (now (drive .exit))) (S·Storage .meaning (now (storage .exit)))) ⌝ }
     {
         match asked {
@@ -33,9 +39,15 @@ impl Card {
 }
 
 // Carries out the calls of the entries in order, puts each answer beside its call, and gives the card as it is then.
-pub(crate) fn run<D: Drive, S: Storage>(device: u8, drive: &mut D, storage: &mut S, entries: &mut [Entry]) -> Card
+pub fn run<D: Drive, S: Storage>(
+    device: u8,
+    drive: &mut D,
+    storage: &mut S,
+    entries: &mut [Entry],
+) -> Card
     ensures calls { λ _. ⌜ callsOf (now (entries .exit)) ≡ callsOf (now (entries .entry)) ⌝ }
     ensures came { λ r. ⌜ ends (run newCard (callsOf (now (entries .entry)))) (world device (D·Drive .meaning (now (drive .entry))) (S·Storage .meaning (now (storage .entry)))) ≡ ended (record { card = r; answers = answersOf (now (entries .exit)) }) (world device (D·Drive .meaning (now (drive .exit))) (S·Storage .meaning (now (storage .exit)))) ⌝ }
+    ensures law { λ _. ⌜ RunLaw (world device (D·Drive .meaning (now (drive .entry))) (S·Storage .meaning (now (storage .entry)))) (world device (D·Drive .meaning (now (drive .exit))) (S·Storage .meaning (now (storage .exit)))) (callsOf (now (entries .entry))) (answersOf (now (entries .exit))) ⌝ }
 {
     let mut card = Card::new();
     for i in 0..entries.len() {

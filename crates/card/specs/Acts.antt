@@ -3,8 +3,11 @@
 --   Query      what can be looked at; Reply says what comes back
 --   Sent       what can be sent: a word to an address, words to the data of a sector
 --   Act        a rule: it is done, or asks and goes on, or sends and goes on, or executes a control block and goes on
+--   Executed   a control block executed: for which command, and where the heads were
 --   answer     what a world replies to a query
+--   bytesOf, padded   the bytes of words, high byte first; a short sector padded with zeros
 --   put        a world after something was sent
+--   Ended, ended   a result with the world after it
 --   ends       what an act comes to in a world, and the world after it
 --   looked     the queries that it asks there, in order
 --   sent       what it sends there, in order

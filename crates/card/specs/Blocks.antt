@@ -4,7 +4,9 @@
 --   downward, difference            the seek control word: bit 4, bits 7 to 15
 --   flag, cylinder, head, sector    the search argument: words 2 low, 3, 4 high, 4 low
 --   chain, count, dataAddress       words 5, 6, 7
+--   controlClear, seekClear         the bits of these words that have to be zero
 --   operationOf                     the operation by the modifier
+--   inputFits, fits                 the input flag goes with the operation; what the operation itself asks of its block
 --   lawful                          whether a block of Start passes the check, the head of a seek aside
 --   lawfulStatus                    whether a block of Start Cycle Steal Status passes it
 --   sectorNow, argument             what is searched for when some sectors are done

@@ -1,10 +1,11 @@
 -- What the calls answer and leave, the step aside.
 --   Turn                a call's turn: the card after it, and its answer
 --   newCard             a card just started
---   isBusy              from an accepted Start or a waiting attention until service, reset or halt
---   waits, attention    the card with an interrupt that waits
+--   isBusy              from an accepted Start or Start Cycle Steal Status, or a waiting attention, until service, reset or halt
+--   inState, withWaiting and their like   the card with one register changed
+--   interrupt           an interrupt that waits: its condition code and its ID word
 --   reset               what Device Reset and Halt leave
---   command, store, readiness, service   the rules of these calls
+--   command, halt, store, readiness, service   the rules of these calls
 use mathlib.Core.Bool.{Bool, true, false, not, _&&_, _||_, cond}
 use Prim.Native.Nat.{ℕ, _+_, _*_, _/_, _%_}
 use lib.Bits.{bitAnd, bitOr}
@@ -108,7 +109,7 @@ meetsBusy (Some DeviceReset) = false
 meetsBusy (Some Start) = true
 meetsBusy (Some StartCycleStealStatus) = true
 
--- an accepted command; its second word is `data`
+-- an accepted command; x is its second word
 abbrev pub accepted : Card → Command → ℕ → Act Turn
 accepted c ReadDeviceId x = ask head-count (λ h. done (turn c (Accepted (cond (eqb h 3) 0x00CA 0x00AA))))
 accepted c Prepare x = done (turn (prepared (x / 2 % 16) (eqb (x % 2) 1) c) (Accepted 0))

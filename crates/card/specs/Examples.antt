@@ -74,7 +74,7 @@ writing sector = Store 0x0200 0 0x1234 ∷ Store 0x0300 0 0xABCD
 abbrev pub position : Ended Ran → List ℕ
 position e = e .result .card .position .cylinder ∷ e .result .card .position .head ∷ []
 
--- the number that an answer gives, zero where it gives none
+-- the number of an exception, and zero for every other answer
 abbrev pub numberOf : Answer → ℕ
 numberOf (EndedBy x b) = exceptionNumber x
 numberOf (Accepted w) = 0

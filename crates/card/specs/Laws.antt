@@ -2,6 +2,7 @@
 --   LastSent   each place holds what was last sent to it; one to which nothing was sent holds what it held
 --   Alike      how two rules' runs from two starts come out alike: the same result, and the same at each place to which either sent anything
 --   AlikeWhere   so they do wherever the second start replies as the first to all that is looked at from the first
+--   SameRun    of a run from a start and one from another: the same answers, and the same at each place to which either sent anything
 --   RunLaw     of a run of calls from a start, with its end and its answers: nothing changes that was neither stored by the processor nor named
 --              by an executed block; a start that agrees on all that is looked at comes out alike, whatever else it holds; each place holds what
 --              was last sent to it

@@ -4,7 +4,7 @@
 --   namesData    the data of the places that a block's argument finds under the heads, for its count, no sector above 59
 --   names        what a block names: Read Data and status their words, Write Data its data, the others nothing
 --   named        what one of the executed blocks names
---   Untouched    at the end of a run every place that is neither is as it was at the start, and so is every ID and verdict
+--   Untouched    at the end of a run every place that is neither is as it was at the start, and so are IDs, heads, size, verdicts and device
 use mathlib.Core.Bool.{Bool, true, false, _&&_, _||_}
 use mathlib.Core.List.{List}
 use mathlib.Core.Path.{_≡_}

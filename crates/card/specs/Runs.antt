@@ -1,5 +1,6 @@
--- A run: any list of the six calls over one card started new.
+-- A run: any list of the six calls over one card. The law is of runs over a new card.
 --   call   the rule of a call
+--   Ran    what a run comes to: the card, and the answers in order
 --   run    the rules of a list of calls, one after the other
 --   callsOf, answersOf   the calls of a list of entries, and the answers beside them
 use mathlib.Core.List.{List, [], _∷_, map}

@@ -206,14 +206,15 @@ sectorStep c b n =
     (cond (c .ready) (finished c b) (failed c (b .address) NotReady))
     (cond (c .ready) (searchedSector c b n (underHeads (c .position))) (sectorFailed c b n NotReady))
 
--- the status words in order; what they are stored at does not count for the residual address
 abbrev pub statusSent : Card → Block → Option Stopped → Act Turn
 statusSent c b None = finished c b
 statusSent c b (Some s) = failed c (b .address) (Storage (s .fault) (s .address))
 
+-- status words 0 to 3
 abbrev pub statusWords : Card → List ℕ
 statusWords c = c .residual ∷ c .errors ∷ c .«write_sector» ∷ 0 ∷ []
 
+-- as many status words as the count asks for; what they are stored at does not count for the residual address
 abbrev pub sendStatus : Card → Block → Act Turn
 sendStatus c b = then (storeWords (take (count b / 2) (statusWords c)) (dataAddress b) (key b) (c .residual)) (λ m. statusSent c b (m .stopped))
 

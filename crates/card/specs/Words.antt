@@ -1,6 +1,7 @@
 -- How words move between the card and storage: in order, at rising addresses that never wrap, until one is not allowed.
 --   Moved        how a transfer ended: the residual address, and the word that was not allowed, if any
 --   Fetched      the same, with the words
+--   well, stoppedAt, residualOf   the two ways to end, and the residual address of a word
 --   fetchWords   words read with a key, one after the other
 --   storeWords   words stored with a key, one after the other
 --   wordsOf      the words of a list of bytes

@@ -4,9 +4,11 @@
 --   Disk                        the heads, and the sector at each place of each track
 --   onDrive                     whether a place of a track is on a drive: cylinders 0 to 302, its heads, places 0 to 59
 --   blank                       what is off the drive: ID and data spoiled, all zero
+--   noId, noBytes               the ID and the data of what is blank
 --   Lawful                      what every make of drive owes
 --   accepts                     what a data call answers: data can be read and written exactly where the ID is good
 --   Reads                       what an accepted read gives
+--   withData, replaced          a sector with new data, which are good; a drive with the data of one place replaced
 --   written                     the drive after a write: the data of that place alone is replaced, and good
 use mathlib.Core.Bool.{Bool, true, false, _&&_, cond}
 use mathlib.Core.List.{List}

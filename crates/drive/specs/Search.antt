@@ -1,8 +1,10 @@
 -- The search along a track.
 --   ids        the sixty IDs of a track with their conditions, in order from index
+--   isSpoiled  a spoiled ID
 --   matches    a good ID that equals the argument
 --   firstOf    the place of the first of a list that passes a test, counted from a number on
 --   someOf     whether one of a list passes a test
+--   told       what is answered: the place, or that there is none
 --   searched   the first place that matches; where there is none, whether a spoiled ID was passed
 --   Holds      a place's ID is good and equals the argument
 --   Found      what a place found is: it holds the argument, and none before it does

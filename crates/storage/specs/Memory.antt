@@ -3,6 +3,8 @@
 --   Memory     the size, the word at each even address, and the verdict of each address and key, for reading and for storing
 --   isWord     whether a word stands at an address: it is even and below the size
 --   Lawful     what every make of storage owes
+--   allowed, where-allowed   what is at hand, or what comes after, where a verdict allows it
+--   withWord   a storage with one word set
 --   loaded     what a read of a word answers
 --   copying, copied   what a word copied to another address answers and leaves
 --   stored     the storage after a store of a word: that word alone is set, and only where the store is allowed

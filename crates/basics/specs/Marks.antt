@@ -3,7 +3,7 @@
 --   without   the list with a mark taken out
 --   entered   the marks after one was to be entered: as before if it is there or no entry is free, else one more, the newest
 --   entering  what the table answers to that
-use Rattle.std.specs.Prelude.{ℕ, Bool, true, false, cond, not, ◌||◌, List, [], ◌∷◌, ◌++◌, length, Ok, Err, filter, Result, nat_lt}
+use Rattle.std.specs.Prelude.{ℕ, Bool, false, cond, not, ◌||◌, List, [], ◌∷◌, ◌++◌, length, Ok, Err, filter, Result, nat_lt}
 use Rattle.basics.specs.declared.refusal.Refusal.{Refusal}
 use Rattle.basics.specs.declared.refusal.Refusal.TheVariants.{MarksFull}
 

@@ -1,4 +1,6 @@
 // The card: its registers and the six calls, proved against the rules.
+#![tactic(auto)]
+
 pub mod call;
 pub mod calls;
 pub mod carry_out;

@@ -1,4 +1,6 @@
 // Tests of the card in the compiled code, by tables: what goes in, and what the rules say comes out.
+#![tactic(auto)]
+
 #[cfg(test)]
 mod chain_tests;
 #[cfg(test)]

@@ -1,4 +1,6 @@
 // The chained pack: a drive held in numbered records, chained by track.
+#![tactic(auto)]
+
 mod chain;
 pub mod chained;
 mod check;

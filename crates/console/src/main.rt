@@ -1,4 +1,6 @@
 // The console: `console run SCRIPT` answers the lines of a script, and `console` alone does a task of its own.
+#![tactic(auto)]
+
 mod begin;
 mod demonstration;
 mod heal;

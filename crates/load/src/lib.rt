@@ -1,3 +1,5 @@
 // One real load through the card, as a run: a recipe written, verified and read back, and then a sector that is not there.
+#![tactic(auto)]
+
 pub mod load;
 mod part;

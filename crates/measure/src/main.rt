@@ -1,5 +1,7 @@
 // Works through storage and packs at full and at lesser size, and counts what came out right.
 // With the argument `times` it also tells how long each part took.
+#![tactic(auto)]
+
 mod report;
 mod tracks;
 mod words;

@@ -1,3 +1,5 @@
 // Packs: drives that are held in bytes.
+#![tactic(auto)]
+
 pub mod id_record;
 pub mod plain_pack;

@@ -1,4 +1,6 @@
 // Runs: lists of calls over one card, one drive and one storage, with the law that holds of every run.
+#![tactic(auto)]
+
 pub mod both;
 pub mod entry;
 pub mod examples;

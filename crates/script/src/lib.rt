@@ -1,4 +1,6 @@
 // Scripts: what their lines say, and calls and answers as lines.
+#![tactic(auto)]
+
 mod calls;
 pub mod hex;
 mod kinds;

@@ -1,4 +1,6 @@
 // Tests of scripts: hand-written lines of every kind, edges of ranges, lines that can't be read, and printed answers.
+#![tactic(auto)]
+
 #[cfg(test)]
 mod answer_tests;
 #[cfg(test)]

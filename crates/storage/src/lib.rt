@@ -1,4 +1,6 @@
 // The processor's storage: what every make of it means, plain and keyed storage, and the parity layer over any.
+#![tactic(auto)]
+
 pub mod copy;
 pub mod keyed;
 pub mod parity;

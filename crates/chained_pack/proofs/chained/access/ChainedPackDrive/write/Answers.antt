@@ -8,8 +8,8 @@ use Rattle.chained_pack.specs.ChainedDisk.{found_low, found_within, good_here, l
 use Rattle.chained_pack.specs.Parts.{clear_parts}
 use Rattle.chained_pack.proofs.chained.access.ChainedPackDrive.write.Goals as goal
 
-pub invariant-of-self : goal.invariant-of-self
-invariant-of-self c =
+pub invariant_of-self : goal.invariant_of-self
+invariant_of-self c =
     let pack = c.args.self.now in
     let b = pack.bytes.items in
     let new = c.args.bytes.now in

@@ -1,6 +1,0 @@
-use Rattle.std.proofs.Common.{arith}
-use lib.ListN.{length-replicate}
-use Rattle.basics.proofs.marks.Marks.new.Goals as goal
-
-pub invariant-of-result : goal.invariant-of-result
-invariant-of-result g c = (omega arith, (length-replicate g.row.N c.args.filler, tt))

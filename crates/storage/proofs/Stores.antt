@@ -1,5 +1,5 @@
 -- A word stored in a list of bytes: that word changes, and no other. Assumes nothing.
-use Rattle.std.proofs.Common.{◌≡◌, ℕ, ◌+◌, ◌*◌, ◌/◌, ◌%◌, ◌<◌, ◌≤◌, Bool, true, false, cond, ◌&&◌, eqb, ltb, ◌≢◌, List, length, get_or, set, Ok, Err, sym, refl, ap, ◌∙◌, ap₂, ⊎_elim, div-add-mod', arith}
+use Rattle.std.proofs.Common.{◌≡◌, ℕ, ◌+◌, ◌*◌, ◌/◌, ◌%◌, ◌<◌, true, false, cond, eqb, ltb, ◌≢◌, List, length, get_or, set, Ok, Err, sym, ap, ◌∙◌, ap₂, ⊎_elim, div-add-mod', arith}
 use mathlib.Core.Path.{fun_ext}
 use Rattle.std.proofs.lemmas.List.{length-set, get_or-set_same, get_or-set_other}
 use Rattle.std.proofs.lemmas.Bool.{cond-true, cond-false, cases_eq, cases_Bool, eqb-true, ltb-true, eq-eqb, ne_eqb, and_parts, both_ways}

@@ -1,8 +1,8 @@
 -- A layer that adds a verdict to a storage below. Assumes nothing.
-use Rattle.std.specs.Prelude.{◌≡◌, ℕ, false, Ok, Err, ◌≢◌, refl}
-use Rattle.std.proofs.Common.{sym, ap, ◌∙◌}
+use Rattle.std.specs.Prelude.{◌≡◌, ℕ, Ok, Err, ◌≢◌, refl}
+use Rattle.std.proofs.Common.{ap}
 use Rattle.basics.specs.declared.fault.Fault.TheVariants.{StorageDataCheck, InvalidAddress}
-use Rattle.storage.specs.Memory.{Verdict, Memory, Lawful, is_word, with_word, where_allowed, stored}
+use Rattle.storage.specs.Memory.{Verdict, Memory, Lawful, with_word, where_allowed, stored}
 use Rattle.storage.specs.Makes.{and_then, guarded}
 
 -- where the layer allows it, the verdict is the one below

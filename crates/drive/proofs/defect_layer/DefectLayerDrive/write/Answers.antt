@@ -12,7 +12,7 @@ returns g c =
     let t = c.args.track in
     let p = c.args.place in
     let marks = held c.args.self.now.marks in
-    let below = c.in-ok-write.ensures in
+    let below = c.in_ok-write.ensures in
     let good = good_from _ _ below.answer in
     let shown = good_through _ _ (sym c.if-marked.ensures) good in
     record {

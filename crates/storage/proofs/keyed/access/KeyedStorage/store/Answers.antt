@@ -8,12 +8,12 @@ pub returns : goal.returns
 returns c =
     let keys = vec_items c.args.self.now.keys in
     let m = plain_memory (vec_items c.args.self.now.plain.bytes) in
-    let opens = c.in-ok-open.ensures in
+    let opens = c.in_ok-open.ensures in
     let below = c.store.ensures in
     let k = c.args.key % 8 in
     let len = ap (λ n. inside n c.args.address (Ok tt)) c.args.self.now.plain.bytes.ok.0 in
     record {
       verdict = below.verdict ∙ then_ok _ _ _ opens;
       after = ap (keyed_memory keys) below.after ∙ stored_below (key_verdict keys) (key_verdict keys) m c.args.address k c.args.word _ opens;
-      refused = λ e. absurd (false≢true (ap is_err (c.in-ok-check.ensures ∙ len ∙ sym below.verdict) ∙ e));
+      refused = λ e. absurd (false≢true (ap is_err (c.in_ok-check.ensures ∙ len ∙ sym below.verdict) ∙ e));
     }

@@ -3,7 +3,6 @@ use Rattle.std.proofs.Common.{◌≡◌, ℕ, ◌+◌, ◌<◌, ◌≤◌, Bool,
 use Rattle.std.proofs.lemmas.List.FromFn.{length-map-range_with_len, get_or-map-range_with_len}
 use Rattle.std.proofs.lemmas.List.{at_drop_more, at_drop_all}
 use Rattle.std.proofs.lemmas.Bool.{cond-true, cond-false, and_left, and_right, and_from}
-use Rattle.std.specs.List.{range_with_len}
 use Rattle.drive.specs.Disk.{Disk, is_good, same_id}
 use Rattle.drive.specs.Search.{ids, matches, is_spoiled, first_of, some_of, told, searched}
 use Rattle.drive.specs.declared.geometry.Track.{Track}

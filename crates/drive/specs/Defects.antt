@@ -6,11 +6,11 @@
 --   with_defects             a sector whose fields are spoiled or not
 --   defect_disk              what the layer means: a mark changes a condition and no byte
 --   place_mark               what entering or lifting a mark answers: a mark goes on a place of the drive
-use Rattle.std.specs.Prelude.{ℕ, Bool, true, false, cond, ◌&&◌, List, Ok, Err, Result, ◌==◌}
+use Rattle.std.specs.Prelude.{ℕ, Bool, true, false, cond, ◌&&◌, List, Err, Result, ◌==◌}
 use Rattle.basics.specs.Marks.{has}
 use Rattle.basics.specs.declared.refusal.Refusal.{Refusal}
 use Rattle.basics.specs.declared.refusal.Refusal.TheVariants.{NoSuchPlace}
-use Rattle.drive.specs.Disk.{Sector, Disk, on_drive, same_track}
+use Rattle.drive.specs.Disk.{Sector, Disk, on_drive}
 use Rattle.drive.specs.declared.defect.Defect.{Defect}
 use Rattle.drive.specs.declared.defect.Field.{Field}
 use Rattle.drive.specs.declared.defect.Field.TheVariants.{Id, Data}

@@ -7,6 +7,6 @@ unfolding words_of
 returns c = record {
   value =
       ap₂ (λ (x : ℕ) (l : List ℕ). x ∷ l) (div-add-mod' c.args.residual 256)
-      (ap₂ (λ (x y : ℕ). x ∷ y ∷ 0 ∷ []) (div-add-mod' c.args.errors 256) (div-add-mod' c.args.write-sector 256));
+      (ap₂ (λ (x y : ℕ). x ∷ y ∷ 0 ∷ []) (div-add-mod' c.args.errors 256) (div-add-mod' c.args.write_sector 256));
   len = refl;
 }

@@ -13,16 +13,16 @@ loop-init c =
       ap₂ (λ (f i : ℕ). each_of (is_first d) (chain_from d.next f i)) all c.first-index.ensures,
     )
 
-pub is-first-requires : goal.is-first-requires
-is-first-requires c = let used = c.loop.invariant.0 in (c.requires.0, (c.requires.1.0, (omega arith, used)))
+pub is_first-requires : goal.is_first-requires
+is_first-requires c = let used = c.loop.invariant.0 in (c.requires.0, (c.requires.1.0, (omega arith, used)))
 
 pub head-index-requires : goal.head-index-requires
 head-index-requires c = let used = c.loop.invariant.0 in (omega arith, omega (arith, c.requires.0))
 
-pub returns-then-not-is-first : goal.returns-then-not-is-first
-returns-then-not-is-first c =
+pub returns-then-not-is_first : goal.returns-then-not-is_first
+returns-then-not-is_first c =
     let d = directory c.args.pack.now in
-    sym (each_fails d (is_first d) c.loop.counter c.loop.index (omega (arith, c.count-end.ensures)) c.if-index-eq0.false (sym c.if-not-is-first.ensures))
+    sym (each_fails d (is_first d) c.loop.counter c.loop.index (omega (arith, c.count-end.ensures)) c.if-index-eq0.false (sym c.if-not-is_first.ensures))
     ∙ c.loop.invariant.1
 
 pub loop-preserved : goal.loop-preserved
@@ -33,7 +33,7 @@ loop-preserved c =
     let used = c.loop.invariant.0 in (
       omega (arith, next_in_use d c.requires.1.0 i (omega arith) used, next),
       ap (λ (j : ℕ). each_of (is_first d) (chain_from d.next (d.count - (c.loop.counter + 1)) j)) next
-          ∙ ap (λ (b : Bool). b && each_of (is_first d) (chain_from d.next (d.count - (c.loop.counter + 1)) (d.next i))) c.if-not-is-first.ensures
+          ∙ ap (λ (b : Bool). b && each_of (is_first d) (chain_from d.next (d.count - (c.loop.counter + 1)) (d.next i))) c.if-not-is_first.ensures
           ∙ sym (each_one d (is_first d) c.loop.counter i (omega (arith, c.count-end.ensures)) c.if-index-eq0.false)
           ∙ c.loop.invariant.1,
     )

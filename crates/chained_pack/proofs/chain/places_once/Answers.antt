@@ -11,16 +11,16 @@ loop-chain-init c =
     let d = directory c.args.pack.now in
     every_none (λ k. each_of (is_first d) (chain_of d k))
 
-pub returns-then-not-chain-single : goal.returns-then-not-chain-single
-returns-then-not-chain-single c =
+pub returns-then-not-chain_single : goal.returns-then-not-chain_single
+returns-then-not-chain_single c =
     let d = directory c.args.pack.now in
-    sym (every_fails (λ k. each_of (is_first d) (chain_of d k)) 64 c.loop-chain.chain c.loop-chain-test.true (sym c.if-not-chain-single.ensures))
+    sym (every_fails (λ k. each_of (is_first d) (chain_of d k)) 64 c.loop-chain.chain c.loop-chain-test.true (sym c.if-not-chain_single.ensures))
     ∙ each_first d c.requires.1
 
 pub loop-chain-preserved : goal.loop-chain-preserved
 loop-chain-preserved c =
     let d = directory c.args.pack.now in
-    every_more (λ k. each_of (is_first d) (chain_of d k)) c.loop-chain.chain c.loop-chain.invariant (sym c.if-not-chain-single.ensures)
+    every_more (λ k. each_of (is_first d) (chain_of d k)) c.loop-chain.chain c.loop-chain.invariant (sym c.if-not-chain_single.ensures)
 
 pub returns : goal.returns
 returns c =

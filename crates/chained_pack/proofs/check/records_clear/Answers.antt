@@ -9,12 +9,12 @@ use Rattle.chained_pack.proofs.check.records_clear.Goals as goal
 pub loop-index-init : goal.loop-index-init
 loop-index-init c = every_none (λ j. record_clear c.args.pack.now (j + 1))
 
-pub returns-then-not-record-clear : goal.returns-then-not-record-clear
-returns-then-not-record-clear c =
+pub returns-then-not-record_clear : goal.returns-then-not-record_clear
+returns-then-not-record_clear c =
     let b = c.args.pack.now in
     let here : c.loop-index.index - 1 + 1 ≡ c.loop-index.index = omega arith in
     sym (every_fails (λ j. record_clear b (j + 1)) (directory b).count (c.loop-index.index - 1) (omega (arith, c.count-index-end.ensures))
-    (ap (record_clear b) here ∙ sym c.if-not-record-clear.ensures))
+    (ap (record_clear b) here ∙ sym c.if-not-record_clear.ensures))
 
 pub loop-index-preserved : goal.loop-index-preserved
 loop-index-preserved c =
@@ -22,7 +22,7 @@ loop-index-preserved c =
     let here : c.loop-index.index - 1 + 1 ≡ c.loop-index.index = omega arith in
     let more : c.loop-index.index - 1 + 1 ≡ c.loop-index.index + 1 - 1 = omega arith in
     ap (every_below (λ j. record_clear b (j + 1))) (sym more)
-    ∙ every_more (λ j. record_clear b (j + 1)) (c.loop-index.index - 1) c.loop-index.invariant (ap (record_clear b) here ∙ sym c.if-not-record-clear.ensures)
+    ∙ every_more (λ j. record_clear b (j + 1)) (c.loop-index.index - 1) c.loop-index.invariant (ap (record_clear b) here ∙ sym c.if-not-record_clear.ensures)
 
 pub returns : goal.returns
 returns c =
@@ -33,10 +33,10 @@ returns c =
     (cases_lt c.count-index-end.result 1) in
     sym (ap (every_below (λ j. record_clear b (j + 1))) none ∙ every_none (λ j. record_clear b (j + 1)))
 
-pub returns-else-not-record-clear : goal.returns-else-not-record-clear
-returns-else-not-record-clear c =
+pub returns-else-not-record_clear : goal.returns-else-not-record_clear
+returns-else-not-record_clear c =
     let b = c.args.pack.now in
     let here : c.loop-index.index - 1 + 1 ≡ c.loop-index.index = omega arith in
     let all : c.loop-index.index - 1 + 1 ≡ (directory b).count = omega (arith, c.count-index-end.ensures) in
     sym (ap (every_below (λ j. record_clear b (j + 1))) (sym all)
-    ∙ every_more (λ j. record_clear b (j + 1)) (c.loop-index.index - 1) c.loop-index.invariant (ap (record_clear b) here ∙ sym c.if-not-record-clear.ensures))
+    ∙ every_more (λ j. record_clear b (j + 1)) (c.loop-index.index - 1) c.loop-index.invariant (ap (record_clear b) here ∙ sym c.if-not-record_clear.ensures))

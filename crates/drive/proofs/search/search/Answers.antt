@@ -16,7 +16,7 @@ returns-then-same_as g c =
     let d = g.D.Drive.meaning c.args.drive.now in
     let is = found d c.args.track c.args.argument c.loop-place.place c.loop-place.passed_spoiled
     c.loop-place.invariant c.id-field.result c.loop-place-test.true c.id-field.ensures
-    c.if-not-is-good.ensures c.if-same-as.ensures in
+    c.if-not-is_good.ensures c.if-same_as.ensures in
     record { answer = is; law = answer_law d c.args.track c.args.argument _ is }
 
 pub loop-place-preserved : goal.loop-place-preserved
@@ -26,10 +26,10 @@ loop-place-preserved g c =
       | then-not-is_good w ↦
           rw w.passed_spoiled-is
           (spoiled_passed d c.args.track c.args.argument c.loop-place.place c.loop-place.passed_spoiled c.loop-place.invariant
-          c.id-field.result c.loop-place-test.true c.id-field.ensures (sym w.if-not-is-good.true ∙ c.is-good.ensures))
+          c.id-field.result c.loop-place-test.true c.id-field.ensures (sym w.if-not-is_good.true ∙ c.is_good.ensures))
       | else-not-is_good+else-same_as w ↦
           rw w.passed_spoiled-is
           (other_passed d c.args.track c.args.argument c.loop-place.place c.loop-place.passed_spoiled c.loop-place.invariant
           c.id-field.result c.loop-place-test.true c.id-field.ensures
-          (sym w.if-not-is-good.false ∙ c.is-good.ensures) (sym w.if-same-as.false ∙ w.same-as.ensures))
+          (sym w.if-not-is_good.false ∙ c.is_good.ensures) (sym w.if-same_as.false ∙ w.same_as.ensures))
     ]

@@ -16,8 +16,8 @@ loop-number-preserved g c =
     let f : ℕ → ℕ = λ n. track_sum d (track_at c.heads-heads.result n) (n * 60) in
     let n = c.loop-number.number in (
       c.loop-number.invariant.0,
-      summed_more f n c.loop-number.sum c.track-sum-sum.result c.loop-number.invariant.1
-          (ap (λ (m : ℕ). m % turn) (c.track-sum-sum.ensures ∙ ap (λ (t : Track). track_sum d t (n * 60) % turn) c.track-at.ensures) ∙ mod-mod (f n) turn),
+      summed_more f n c.loop-number.sum c.track_sum-sum.result c.loop-number.invariant.1
+          (ap (λ (m : ℕ). m % turn) (c.track_sum-sum.ensures ∙ ap (λ (t : Track). track_sum d t (n * 60) % turn) c.track_at.ensures) ∙ mod-mod (f n) turn),
     )
 
 pub returns : goal.returns

@@ -12,8 +12,8 @@ loop-place-preserved g c =
     let d = g.D.Drive.meaning c.args.drive.now in
     let f : ℕ → ℕ = λ p. weighed 1 (place_bytes d c.args.track p) * (c.args.before + p + 1) in
     let p = c.loop-place.place in
-    summed_more f p c.loop-place.sum (c.place-sum.result * (c.args.before + p + 1) % turn) c.loop-place.invariant
-    (term c.place-sum.result (weighed 1 (place_bytes d c.args.track p)) (c.args.before + p + 1) c.place-sum.ensures)
+    summed_more f p c.loop-place.sum (c.place_sum.result * (c.args.before + p + 1) % turn) c.loop-place.invariant
+    (term c.place_sum.result (weighed 1 (place_bytes d c.args.track p)) (c.args.before + p + 1) c.place_sum.ensures)
 
 pub returns : goal.returns
 unfolding track_sum

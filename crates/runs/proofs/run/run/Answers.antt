@@ -14,7 +14,7 @@ pub loop-i-init : goal.loop-i-init
 loop-i-init g c =
     let es = c.args.entries.now in
     let w = world c.args.device (g.D.Drive.meaning c.args.drive.now) (g.S.Storage.meaning c.args.storage.now) in
-    let new = sym c.new-card.ensures in (
+    let new = sym c.new_card.ensures in (
       subst (λ (k : Card). Running new_card es es w w 0 k) new (running_none new_card es es w refl),
       λ spared. (refl, ap (λ (k : Card). spares_drive (sent (run k (calls_of es)) w)) (sym new) ∙ spared),
       λ spared. (refl, ap (λ (k : Card). spares_storage (sent (run k (calls_of es)) w)) (sym new) ∙ spared),
@@ -25,13 +25,13 @@ loop-i-preserved g c =
     let es = c.args.entries.now in
     let w = world c.args.device (g.D.Drive.meaning c.args.drive.now) (g.S.Storage.meaning c.args.storage.now) in
     let w' = world c.args.device (g.D.Drive.meaning c.loop-i.drive) (g.S.Storage.meaning c.loop-i.storage) in
-    let w'' = world c.args.device (g.D.Drive.meaning c.carry-out-answer.new.drive) (g.S.Storage.meaning c.carry-out-answer.new.storage) in
-    let done = c.carry-out-answer.ensures in (
-      running_read new_card es c.loop-i.entries w w' w'' c.loop-i.i c.loop-i.card c.carry-out-answer.new.self c.loop-i.invariant.0 _ c.carry-out-answer.result (omega arith) done.came,
-      keeping_more spares_drive drive_front drive_back new_card es c.loop-i.entries w w' w'' c.loop-i.i c.loop-i.card c.carry-out-answer.new.self
-          c.args.drive.now c.loop-i.drive c.carry-out-answer.new.drive c.loop-i.invariant.1 _ c.carry-out-answer.result (omega arith) done.came done.drive,
-      keeping_more spares_storage storage_front storage_back new_card es c.loop-i.entries w w' w'' c.loop-i.i c.loop-i.card c.carry-out-answer.new.self
-          c.args.storage.now c.loop-i.storage c.carry-out-answer.new.storage c.loop-i.invariant.2 _ c.carry-out-answer.result (omega arith) done.came done.storage,
+    let w'' = world c.args.device (g.D.Drive.meaning c.carry_out-answer.new.drive) (g.S.Storage.meaning c.carry_out-answer.new.storage) in
+    let done = c.carry_out-answer.ensures in (
+      running_read new_card es c.loop-i.entries w w' w'' c.loop-i.i c.loop-i.card c.carry_out-answer.new.self c.loop-i.invariant.0 _ c.carry_out-answer.result (omega arith) done.came,
+      keeping_more spares_drive drive_front drive_back new_card es c.loop-i.entries w w' w'' c.loop-i.i c.loop-i.card c.carry_out-answer.new.self
+          c.args.drive.now c.loop-i.drive c.carry_out-answer.new.drive c.loop-i.invariant.1 _ c.carry_out-answer.result (omega arith) done.came done.drive,
+      keeping_more spares_storage storage_front storage_back new_card es c.loop-i.entries w w' w'' c.loop-i.i c.loop-i.card c.carry_out-answer.new.self
+          c.args.storage.now c.loop-i.storage c.carry_out-answer.new.storage c.loop-i.invariant.2 _ c.carry_out-answer.result (omega arith) done.came done.storage,
     )
 
 pub returns : goal.returns

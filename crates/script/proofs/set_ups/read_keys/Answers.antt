@@ -18,10 +18,10 @@ returns-in-err-key c =
 pub loop-word-preserved : goal.loop-word-preserved
 loop-word-preserved c = (
   search rules,
-  ap (λ ks. keys_from (c.loop-word.count + 1) ks (words c.in-Some.more.now)) c.put-key.ensures
+  ap (λ ks. keys_from (c.loop-word.count + 1) ks (words c.in-Some.more.now)) c.put_key.ensures
       ∙ keys_more c.loop-word.count c.in-ok-key.key c.loop-word.keys c.in-Some.word.now (words c.loop-word.rest.now) (words c.in-Some.more.now) c.in-Some.ensures.words c.in-ok-key.ensures
       ∙ c.loop-word.invariant.1,
-  ap length c.put-key.ensures ∙ length-set c.loop-word.keys c.loop-word.count c.in-ok-key.key ∙ c.loop-word.invariant.2,
+  ap length c.put_key.ensures ∙ length-set c.loop-word.keys c.loop-word.count c.in-ok-key.key ∙ c.loop-word.invariant.2,
   omega (arith, c.loop-word.invariant.3, c.in-Some.ensures.shorter),
 )
 

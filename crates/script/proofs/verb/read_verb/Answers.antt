@@ -3,4 +3,4 @@ use Rattle.script.proofs.verb.read_verb.Goals as goal
 
 pub returns : goal.returns
 unfolding verbs verb_of
-returns c = c.verb-among.ensures
+returns c = c.verb_among.ensures

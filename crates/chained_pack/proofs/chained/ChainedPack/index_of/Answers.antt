@@ -22,23 +22,23 @@ pub overflow-mul-number : goal.overflow-mul-number
 overflow-mul-number c =
     omega (
       arith,
-      small c.args.self.now.bytes.items c.as-slice-bytes.result.now c.args.track c.heads-heads.result c.args.self.now.lawful
-          c.as-slice-bytes.ensures.value c.heads-heads.ensures c.if-track-ge-CYLINDERS.false c.if-track-heads.false,
+      small c.args.self.now.bytes.items c.as_slice-bytes.result.now c.args.track c.heads-heads.result c.args.self.now.lawful
+          c.as_slice-bytes.ensures.value c.heads-heads.ensures c.if-track-ge-CYLINDERS.false c.if-track-heads.false,
     )
 
 pub overflow-add-number : goal.overflow-add-number
 overflow-add-number c =
     omega (
       arith,
-      small c.args.self.now.bytes.items c.as-slice-bytes.result.now c.args.track c.heads-heads.result c.args.self.now.lawful
-          c.as-slice-bytes.ensures.value c.heads-heads.ensures c.if-track-ge-CYLINDERS.false c.if-track-heads.false,
+      small c.args.self.now.bytes.items c.as_slice-bytes.result.now c.args.track c.heads-heads.result c.args.self.now.lawful
+          c.as_slice-bytes.ensures.value c.heads-heads.ensures c.if-track-ge-CYLINDERS.false c.if-track-heads.false,
     )
 
 pub find-requires : goal.find-requires
 find-requires c =
     let p = clear_parts c.args.self.now.bytes.items c.args.self.now.lawful in
-    let same = c.as-slice-bytes.ensures.value in
-    (room_for_used c.as-slice-bytes.result.now (ap length_clear same ∙ p.long), ap (λ (l : List ℕ). chains_clear (directory l)) same ∙ p.chains)
+    let same = c.as_slice-bytes.ensures.value in
+    (room_for_used c.as_slice-bytes.result.now (ap length_clear same ∙ p.long), ap (λ (l : List ℕ). chains_clear (directory l)) same ∙ p.chains)
 
 -- what the chain gives is the record of the place
 looked_up : (b s : List ℕ) (t : Track) (place x : ℕ) (r : Option ℕ) → is_lawful b ≡ true → x ≡ heads_of b → t.cylinder < 303 → t.head < x → place < 60
@@ -55,9 +55,9 @@ pub returns : goal.returns
 returns c =
     let b = c.args.self.now.bytes.items in
     let p = clear_parts b c.args.self.now.lawful in
-    let heads = c.heads-heads.ensures ∙ ap heads_of c.as-slice-bytes.ensures.value in
-    let found = looked_up b c.as-slice-bytes.result.now c.args.track c.args.place c.heads-heads.result c.find.result c.args.self.now.lawful heads
-    c.if-track-ge-CYLINDERS.false c.if-track-heads.false c.if-place-ge-PLACES.false c.as-slice-bytes.ensures.value c.find.ensures in
+    let heads = c.heads-heads.ensures ∙ ap heads_of c.as_slice-bytes.ensures.value in
+    let found = looked_up b c.as_slice-bytes.result.now c.args.track c.args.place c.heads-heads.result c.find.result c.args.self.now.lawful heads
+    c.if-track-ge-CYLINDERS.false c.if-track-heads.false c.if-place-ge-PLACES.false c.as_slice-bytes.ensures.value c.find.ensures in
     record {
       found = found;
       within = within_pack b c.args.track c.args.place c.args.self.now.bytes.len p.long c.args.self.now.bytes.ok.0 c.find.result found;

@@ -9,7 +9,7 @@ use Rattle.chained_pack.proofs.chained.ChainedPack.open.Goals as goal
 pub returns-in-None : goal.returns-in-None
 returns-in-None c =
     let b = c.args.bytes.items in
-    let none = ap chained_fault (sym c.as-slice.ensures.value) ∙ sym c.in-None.ensures in
+    let none = ap chained_fault (sym c.as_slice.ensures.value) ∙ sym c.in-None.ensures in
     let p = no_fault b none in
     record {
       opened = (none, refl);
@@ -19,7 +19,7 @@ returns-in-None c =
 
 pub returns-in-Some : goal.returns-in-Some
 returns-in-Some c = record {
-  opened = (ap chained_fault (sym c.as-slice.ensures.value) ∙ sym c.in-Some.ensures, refl);
+  opened = (ap chained_fault (sym c.as_slice.ensures.value) ∙ sym c.in-Some.ensures, refl);
   loops = loopless;
   orderly = tt;
 }

@@ -13,8 +13,8 @@ returns c =
     let at = c.in-Some.ensures in
     let len = pack.bytes.ok.0 in
     let new = fresh_track c.args.track in
-    let items = with_items_is pack.bytes c.put-fresh-track.new.pack (omega arith) ∙ c.put-fresh-track.ensures
-    ∙ ap (λ b. paste b c.in-Some.at new 15840) c.as-mut-slice.ensures.value
+    let items = with_items_is pack.bytes c.put_fresh_track.new.pack (omega arith) ∙ c.put_fresh_track.ensures
+    ∙ ap (λ b. paste b c.in-Some.at new 15840) c.as_mut_slice.ensures.value
     ∙ ap (λ i. paste pack.bytes.items i new 15840) at.1 in
     record {
       answer = sym (cond-true _ _ _ at.0);

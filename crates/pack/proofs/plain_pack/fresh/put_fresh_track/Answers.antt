@@ -13,7 +13,7 @@ unfolding order
 loop-place-preserved c =
     let i = c.loop-place.place in
     let t = c.args.track in
-    c.put-fresh.ensures
+    c.put_fresh.ensures
     ∙ ap (λ l. paste l (c.args.at + i * 264) (fresh_record t (get_or order i 0)) 264) c.loop-place.invariant
     ∙ place_more c.args.pack.now c.args.at t i c.loop-place-test.true (omega arith)
 

@@ -7,15 +7,15 @@ use Rattle.pack.proofs.plain_pack.open.places_fault.Goals as goal
 pub loop-place-init : goal.loop-place-init
 loop-place-init c = (every_none (zero_clear c.args.bytes.now), sym (every_none (conditions_clear c.args.bytes.now)))
 
-pub returns-then-not-zero-clear : goal.returns-then-not-zero-clear
-returns-then-not-zero-clear c =
-    let bad = every_fails (zero_clear c.args.bytes.now) c.args.places c.loop-place.place c.loop-place-test.true (sym c.if-not-zero-clear.ensures) in
+pub returns-then-not-zero_clear : goal.returns-then-not-zero_clear
+returns-then-not-zero_clear c =
+    let bad = every_fails (zero_clear c.args.bytes.now) c.args.places c.loop-place.place c.loop-place-test.true (sym c.if-not-zero_clear.ensures) in
     sym (cond-false _ _ _ bad)
 
 pub loop-place-preserved : goal.loop-place-preserved
 loop-place-preserved c =
     let b = c.args.bytes.now in
     let n = c.loop-place.place in (
-      every_more (zero_clear b) n c.loop-place.invariant.0 (sym c.if-not-zero-clear.ensures),
-      ap₂ (λ x y. x && y) c.loop-place.invariant.1 c.conditions-clear-conditions.ensures ∙ sym (every-step (conditions_clear b) n),
+      every_more (zero_clear b) n c.loop-place.invariant.0 (sym c.if-not-zero_clear.ensures),
+      ap₂ (λ x y. x && y) c.loop-place.invariant.1 c.conditions_clear-conditions.ensures ∙ sym (every-step (conditions_clear b) n),
     )

@@ -7,12 +7,12 @@ pub returns : goal.returns
 returns g c =
     let before = c.args.self.now in
     record {
-      turn = c.carry-out.ensures.came;
+      turn = c.carry_out.ensures.came;
       device = refl;
-      goes = goes_on before.card c.carry-out.new.self
+      goes = goes_on before.card c.carry_out.new.self
           (world before.device (g.D.Drive.meaning before.drive) (g.S.Storage.meaning before.storage))
-          (world before.device (g.D.Drive.meaning c.carry-out.new.drive) (g.S.Storage.meaning c.carry-out.new.storage))
-          c.args.asked c.carry-out.result c.carry-out.ensures.came;
-      drive = c.carry-out.ensures.drive;
-      storage = c.carry-out.ensures.storage;
+          (world before.device (g.D.Drive.meaning c.carry_out.new.drive) (g.S.Storage.meaning c.carry_out.new.storage))
+          c.args.asked c.carry_out.result c.carry_out.ensures.came;
+      drive = c.carry_out.ensures.drive;
+      storage = c.carry_out.ensures.storage;
     }

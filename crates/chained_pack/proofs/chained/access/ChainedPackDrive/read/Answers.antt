@@ -10,7 +10,7 @@ returns c =
     let b = c.args.self.now.bytes.items in
     let at = c.start-at.result in
     let i = c.in-Some.index in
-    let front = c.head.ensures ∙ ap (λ (l : List ℕ). head_of l i) c.as-slice.ensures.value in
+    let front = c.head.ensures ∙ ap (λ (l : List ℕ). head_of l i) c.as_slice.ensures.value in
     let zero' : get_or b (at + 5) 0 ≡ 0 =
     ap (λ (x : ℕ). get_or b (x + 5) 0) c.start-at.ensures ∙ sym (ap (λ (h : RecordHead). h.id_condition) front) ∙ c.if-head-ne0.false in
     let good = good_here b c.args.track c.args.place i at c.in-Some.ensures.found c.start-at.ensures zero' in

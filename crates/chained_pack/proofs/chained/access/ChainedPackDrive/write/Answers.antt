@@ -16,8 +16,8 @@ invariant_of-self c =
     let i = c.in-Some.index in
     let found = sym c.in-Some.ensures.found in
     let len = pack.bytes.ok.0 in
-    let items = with_items_is pack.bytes c.put-data.new.pack (omega arith) ∙ c.put-data.ensures
-    ∙ ap₂ (λ (l : List ℕ) (at : ℕ). data_put l at new) c.as-mut-slice.ensures.value c.start.ensures in (
+    let items = with_items_is pack.bytes c.put_data.new.pack (omega arith) ∙ c.put_data.ensures
+    ∙ ap₂ (λ (l : List ℕ) (at : ℕ). data_put l at new) c.as_mut_slice.ensures.value c.start.ensures in (
       ap is_lawful items
           ∙ lawful_kept b new i (omega arith) (found_low b c.args.track c.args.place i found)
           (found_within b c.args.track c.args.place i found (clear_parts b pack.lawful).long) pack.lawful,
@@ -32,12 +32,12 @@ returns c =
     let i = c.in-Some.index in
     let found = c.in-Some.ensures.found in
     let len = pack.bytes.ok.0 in
-    let front = c.head.ensures ∙ ap (λ (l : List ℕ). head_of l i) c.as-slice.ensures.value in
+    let front = c.head.ensures ∙ ap (λ (l : List ℕ). head_of l i) c.as_slice.ensures.value in
     let zero' : get_or b (start_of i + 5) 0 ≡ 0 = sym (ap (λ (h : RecordHead). h.id_condition) front) ∙ c.if-head-ne0.false in
     let start = c.start.ensures in
     let good = good_here b c.args.track c.args.place i c.start.result found start (ap (λ (x : ℕ). get_or b (x + 5) 0) start ∙ zero') in
-    let items = with_items_is pack.bytes c.put-data.new.pack (omega arith) ∙ c.put-data.ensures
-    ∙ ap₂ (λ (l : List ℕ) (at : ℕ). data_put l at new) c.as-mut-slice.ensures.value start in
+    let items = with_items_is pack.bytes c.put_data.new.pack (omega arith) ∙ c.put_data.ensures
+    ∙ ap₂ (λ (l : List ℕ) (at : ℕ). data_put l at new) c.as_mut_slice.ensures.value start in
     record {
       answer = sym (cond-true _ _ _ good);
       after = ap chained_disk items ∙ chained_written b new pack.lawful (omega arith) c.args.track c.args.place i (sym found) ∙ sym (cond-true _ _ _ good);

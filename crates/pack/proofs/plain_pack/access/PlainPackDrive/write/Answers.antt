@@ -14,9 +14,9 @@ returns c =
     let new = c.args.bytes.now in
     let good = good_here pack.heads pack.bytes.items c.args.track c.args.place c.in-Some.at at.0 at.1
     c.index.result.now (omega arith) c.index.ensures c.if-index-ne0.false in
-    let put = c.put-data.ensures in
-    let items = with_items_is pack.bytes c.put-data.new.pack (omega arith) ∙ put
-    ∙ ap (λ b. paste (set b (c.in-Some.at + 1) 0) (c.in-Some.at + 8) new 256) c.as-mut-slice.ensures.value
+    let put = c.put_data.ensures in
+    let items = with_items_is pack.bytes c.put_data.new.pack (omega arith) ∙ put
+    ∙ ap (λ b. paste (set b (c.in-Some.at + 1) 0) (c.in-Some.at + 8) new 256) c.as_mut_slice.ensures.value
     ∙ ap (λ i. paste (set pack.bytes.items (i + 1) 0) (i + 8) new 256) at.1 in
     record {
       answer = sym (cond-true _ _ _ good);

@@ -1,5 +1,5 @@
 -- What spares the storage or the drive, part by part. Assumes nothing.
-use Rattle.std.proofs.Common.{◌≡◌, ℕ, ◌+◌, ◌*◌, ◌/◌, ◌%◌, ◌<◌, min, Bool, true, false, cond, List, [], ◌∷◌, ◌++◌, length, take, Ok, Err, sym, refl, ap, ◌∙◌, subst, ap₂, not-suc-le-zero, arith}
+use Rattle.std.proofs.Common.{◌≡◌, ℕ, ◌+◌, ◌*◌, ◌/◌, ◌%◌, ◌<◌, min, true, List, [], ◌∷◌, ◌++◌, length, take, Ok, Err, sym, refl, ap, ◌∙◌, ap₂, not-suc-le-zero, arith}
 use Rattle.std.proofs.lemmas.Bool.{cond-true, false≢true}
 use Rattle.storage.specs.Memory.{Verdict, Memory}
 use Rattle.drive.specs.Disk.{Disk, is_good}

@@ -1,5 +1,5 @@
 -- How a transfer of words goes on, word by word. Assumes nothing.
-use Rattle.std.proofs.Common.{◌≡◌, ℕ, zero, suc, ◌+◌, ◌-◌, ◌*◌, ◌%◌, ◌<◌, ◌≤◌, List, [], ◌∷◌, ◌++◌, length, get_or, take, drop, set, Ok, Err, Result, sym, refl, ap, ◌∙◌, subst, ap₂, append_assoc, not-suc-le-zero, arith}
+use Rattle.std.proofs.Common.{◌≡◌, ℕ, zero, suc, ◌+◌, ◌-◌, ◌*◌, ◌%◌, ◌<◌, ◌≤◌, List, [], ◌∷◌, ◌++◌, length, get_or, take, drop, set, Ok, Err, sym, refl, ap, ◌∙◌, ap₂, append_assoc, not-suc-le-zero, arith}
 use Rattle.std.proofs.lemmas.List.{take_more_set, append-nil, drop_more, drop_all, length-take, get_or-take}
 use Rattle.basics.specs.declared.fault.Fault.{Fault}
 use Rattle.storage.specs.Memory.{Verdict, Memory, loaded, allowed, with_word, where_allowed, stored}

@@ -14,7 +14,7 @@
 --   sent       what it sends there, in order
 --   executed   the control blocks that it executes there, in order
 --   then       one act after another
-use Rattle.std.specs.Prelude.{ℕ, ◌/◌, ◌%◌, Bool, true, false, cond, List, [], ◌∷◌, ◌++◌, take, replicate}
+use Rattle.std.specs.Prelude.{ℕ, ◌/◌, ◌%◌, Bool, true, false, List, [], ◌∷◌, ◌++◌, take, replicate}
 use Rattle.storage.specs.Memory.{Verdict, Memory, with_word}
 use Rattle.drive.specs.Disk.{Disk, replaced}
 use Rattle.drive.specs.Search.{ids}

@@ -11,7 +11,7 @@
 --   lawful_status                    whether a block of Start Cycle Steal Status passes it
 --   sector_now, argument             what is searched for when some sectors are done
 --   left                            how many bytes are left when some sectors are done
-use Rattle.std.specs.Prelude.{ℕ, ◌+◌, ◌-◌, ◌*◌, ◌/◌, ◌%◌, Bool, true, false, cond, not, ◌&&◌, ◌||◌, Some, None, Option, ◌==◌, bit_and, nat_le, slice_index}
+use Rattle.std.specs.Prelude.{ℕ, ◌+◌, ◌-◌, ◌*◌, ◌/◌, ◌%◌, Bool, true, cond, not, ◌&&◌, ◌||◌, Some, None, Option, ◌==◌, bit_and, nat_le, slice_index}
 use Rattle.drive.specs.declared.sector.SectorId.{SectorId}
 use Rattle.card.specs.declared.control_block.Block.{Block}
 use Rattle.card.specs.declared.control_block.Operation.{Operation}

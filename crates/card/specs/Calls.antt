@@ -7,11 +7,9 @@
 --   reset               what Device Reset and Halt leave
 --   command, halt, store, readiness, service   the rules of these calls
 use Rattle.std.specs.Prelude.{ℕ, ◌+◌, ◌*◌, ◌/◌, ◌%◌, Bool, true, false, cond, not, ◌&&◌, ◌||◌, is_some, Some, None, Ok, Err, Option, ◌==◌, bit_and}
-use Rattle.std.specs.Int.Bits.{bit_or}
 use Rattle.card.specs.Acts.{Act, done, ask, send, device_address, head-count, storing, to_word}
 use Rattle.answers.specs.declared.answer.Answer.{Answer}
 use Rattle.answers.specs.declared.answer.Answer.TheVariants.{Accepted, CommandRefused, Done, StoreRefused, Interrupt, NothingWaits}
-use Rattle.answers.specs.declared.answer.CommandRefusal.{CommandRefusal}
 use Rattle.answers.specs.declared.answer.CommandRefusal.TheVariants.{NotAttached, InterfaceDataCheck, Busy, CommandReject}
 use Rattle.card.specs.declared.call.Command.{Command}
 use Rattle.card.specs.declared.call.Command.TheVariants.{ReadDeviceId, Prepare, DeviceReset, Start, StartCycleStealStatus}

@@ -5,7 +5,7 @@
 --   sector_step          one sector of a data operation
 --   status_words, send_status   the status words, and the step that sends them
 --   step                the step, by the card's state
-use Rattle.std.specs.Prelude.{ℕ, ◌+◌, ◌-◌, ◌*◌, ◌/◌, ◌%◌, min, Bool, true, false, cond, not, ◌&&◌, List, [], ◌∷◌, take, Some, None, Ok, Err, Option, Result, ◌==◌, bit_or, nat_le, nat_lt}
+use Rattle.std.specs.Prelude.{ℕ, ◌+◌, ◌-◌, ◌*◌, ◌/◌, min, Bool, true, false, cond, List, [], ◌∷◌, take, Some, None, Ok, Err, Option, Result, ◌==◌, bit_or, nat_le, nat_lt}
 use Rattle.drive.specs.Disk.{is_good}
 use Rattle.drive.specs.Search.{searched}
 use Rattle.drive.specs.declared.geometry.Track.{Track}

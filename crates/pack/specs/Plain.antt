@@ -7,7 +7,7 @@
 --   places_fault    what the places are refused by, if by anything
 --   in_places       the same behind the test of the length
 --   plain_fault     why bytes are no plain pack, if they are none: first the length, then any zero byte, then any condition
-use Rattle.std.specs.Prelude.{ℕ, ◌+◌, ◌*◌, ◌/◌, Bool, cond, ◌&&◌, List, length, take, drop, Some, None, Option, ◌==◌, nat_le, slice_index}
+use Rattle.std.specs.Prelude.{ℕ, ◌+◌, ◌*◌, Bool, cond, ◌&&◌, List, length, take, drop, Some, None, Option, ◌==◌, nat_le, slice_index}
 use Rattle.basics.specs.declared.refusal.Refusal.{Refusal}
 use Rattle.basics.specs.declared.refusal.Refusal.TheVariants.{Length, Header, Record}
 use Rattle.drive.specs.Disk.{Sector, Disk, on_drive, blank}

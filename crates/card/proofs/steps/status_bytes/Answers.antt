@@ -1,4 +1,4 @@
-use Rattle.std.proofs.Common.{ℕ, List, [], ◌∷◌, refl, ap, ◌∙◌, ap₂, div-add-mod'}
+use Rattle.std.proofs.Common.{ℕ, List, [], ◌∷◌, refl, ap₂, div-add-mod'}
 use Rattle.card.specs.Words.{words_of}
 use Rattle.card.proofs.steps.status_bytes.Goals as goal
 

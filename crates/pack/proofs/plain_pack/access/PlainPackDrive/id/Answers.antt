@@ -1,4 +1,4 @@
-use Rattle.std.proofs.Common.{◌+◌, ◌-◌, ap, ◌∙◌, arith}
+use Rattle.std.proofs.Common.{◌+◌, ◌-◌, ◌∙◌, arith}
 use Rattle.pack.specs.PlainDisk.{id_read}
 use Rattle.pack.proofs.plain_pack.access.PlainPackDrive.id.Goals as goal
 

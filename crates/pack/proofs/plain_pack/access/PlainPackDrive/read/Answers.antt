@@ -1,4 +1,4 @@
-use Rattle.std.proofs.Common.{◌+◌, ◌-◌, sym, ◌∙◌, arith}
+use Rattle.std.proofs.Common.{◌+◌, ◌-◌, sym, arith}
 use Rattle.std.proofs.lemmas.Bool.{cond-true}
 use Rattle.pack.specs.PlainDisk.{good_here, data_read}
 use Rattle.pack.proofs.plain_pack.access.PlainPackDrive.read.Goals as goal

@@ -1,21 +1,20 @@
 -- Each rule looks only at what it may, and executes and sends exactly what it has to. Assumes nothing.
-use Rattle.std.proofs.Common.{◌≡◌, ℕ, ◌+◌, ◌/◌, ◌%◌, ◌≤◌, Bool, true, false, cond, not, ◌&&◌, eqb, ltb, leb, ◌⊎◌, List, [], ◌∷◌, ◌++◌, length, take, is_ok, Some, None, Ok, Err, Option, Result, sym, refl, ap, ◌∙◌, subst, ap₂, inl, inr, ⊎_elim, arith}
+use Rattle.std.proofs.Common.{◌≡◌, ℕ, ◌+◌, ◌/◌, ◌%◌, Bool, true, false, cond, not, ◌&&◌, eqb, ltb, leb, List, [], ◌∷◌, ◌++◌, take, is_ok, Some, None, Ok, Err, Option, Result, sym, refl, ap, ◌∙◌, subst, ap₂, inl, inr, ⊎_elim, arith}
 use Rattle.std.proofs.lemmas.List.{append-nil, length-take}
 use Rattle.std.proofs.lemmas.Bool.{cases_Bool, and_from}
 use Rattle.storage.specs.Memory.{Verdict}
 use Rattle.drive.specs.Disk.{is_good}
-use Rattle.drive.specs.declared.geometry.Track.{Track}
 use Rattle.drive.specs.declared.search.NoRecord.{NoRecord}
-use Rattle.card.specs.Acts.{World, Query, device_address, head-count, reading, word_at, storing, ids_of, condition_of, data_of, Sent, to_word, to_sector, Executed, Act, done, ask, send, ends, put, looked, executed, sent, then}
-use Rattle.card.specs.Blocks.{even, chaining, key, modifier, head, count, data_address, operation_of, lawful, lawful_status, left, sector_now, argument}
+use Rattle.card.specs.Acts.{World, Query, device_address, head-count, storing, ids_of, condition_of, data_of, Sent, to_word, to_sector, Executed, Act, done, ask, send, ends, put, looked, executed, sent, then}
+use Rattle.card.specs.Blocks.{even, chaining, key, modifier, head, count, data_address, operation_of, lawful, lawful_status, left, sector_now}
 use Rattle.card.specs.Calls.{Turn, turn, is_busy, command_of, meets_busy, known, at_position, with_residual}
 use Rattle.runs.specs.Laws.{RunAudit}
-use Rattle.runs.specs.Moments.{Moment, moments, unless_waiting, doing, can_read, can_store, words_from, allowed_from, Tried, block_from, head_fits, passes_as, passes, executes_in, executes_at, while_allowed, searches, search_result, read_sends, write_sends, place_sends, found_sends, sends_in, store_sends, sends_at, Finds, LooksIn, MayLook, All, of_all, looks_at, Audited}
+use Rattle.runs.specs.Moments.{Moment, moments, unless_waiting, doing, can_read, can_store, words_from, allowed_from, block_from, head_fits, passes_as, passes, executes_in, while_allowed, searches, search_result, read_sends, write_sends, place_sends, found_sends, sends_in, store_sends, Finds, LooksIn, All, of_all, looks_at, Audited}
 use Rattle.card.specs.Rules.{call}
-use Rattle.runs.specs.Runs.{Ran, run}
-use Rattle.card.specs.Steps.{failed_passing, failed, finished, executes, checked_head, checked_operation, checked, residual_for, fetched, fetch, destination, landed, move, under_heads, write_ends, sector_done, or_stopped, transferred, words_left, sector_address, verify_sector, read_sector, gathered, write_sector_lem, found, placed, searched_sector, sector_step, status_words, status_sent, send_status, in_hand, step}
+use Rattle.runs.specs.Runs.{run}
+use Rattle.card.specs.Steps.{finished, executes, checked_head, checked_operation, checked, residual_for, fetched, fetch, destination, landed, move, under_heads, write_ends, sector_done, or_stopped, transferred, words_left, sector_address, verify_sector, read_sector, gathered, write_sector_lem, found, placed, sector_step, status_words, status_sent, send_status, in_hand}
 use Rattle.card.specs.Words.{Moved, Fetched, fetch_words, store_words, words_of}
-use Rattle.answers.specs.declared.answer.Answer.TheVariants.{Done, StoreRefused, NothingWaits, Idle as NothingToDo}
+use Rattle.answers.specs.declared.answer.Answer.TheVariants.{Done, StoreRefused, Idle as NothingToDo}
 use Rattle.card.specs.declared.call.Call.{Call}
 use Rattle.card.specs.declared.call.Call.TheVariants.{Command as Commanded, Halt, Store, Readiness, Service, Step}
 use Rattle.card.specs.declared.call.Command.{Command}

@@ -1,5 +1,5 @@
 -- Each rule sends only to places that the processor stored or an executed block named. Assumes nothing.
-use Rattle.std.proofs.Common.{◌≡◌, ℕ, zero, suc, ◌+◌, ◌-◌, ◌*◌, ◌/◌, ◌%◌, ◌<◌, ◌≤◌, min, Bool, true, false, cond, not, ◌&&◌, ◌||◌, eqb, ltb, leb, ◌⊎◌, List, [], ◌∷◌, length, take, is_ok, Some, None, Ok, Err, Option, Result, sym, refl, ap, ◌∙◌, subst, ap₂, inl, inr, ⊎_elim, not-suc-le-zero, mod-eq_of_lt, arith}
+use Rattle.std.proofs.Common.{◌≡◌, ℕ, zero, suc, ◌+◌, ◌*◌, ◌/◌, ◌%◌, ◌<◌, ◌≤◌, Bool, true, false, cond, not, ◌&&◌, ◌||◌, eqb, ltb, leb, ◌⊎◌, List, [], ◌∷◌, length, take, is_ok, Some, None, Ok, Err, Option, Result, sym, refl, ap, ◌∙◌, subst, inl, inr, ⊎_elim, not-suc-le-zero, mod-eq_of_lt, arith}
 use Rattle.std.proofs.lemmas.List.{length-take}
 use Rattle.std.proofs.lemmas.Bool.{cases_eq, and_parts, and_from, or_left, or_right, eqb-false, eq-eqb, leb-true, leb-false, le-leb, lt-ltb}
 use Rattle.storage.specs.Memory.{Verdict}
@@ -7,16 +7,15 @@ use Rattle.drive.specs.Disk.{is_good, same_track}
 use Rattle.drive.specs.Search.{ids, searched, some_of}
 use Rattle.drive.specs.declared.geometry.Track.{Track}
 use Rattle.drive.specs.declared.search.NoRecord.{NoRecord}
-use Rattle.drive.specs.declared.sector.IdField.{IdField}
-use Rattle.card.specs.Acts.{World, Executed, to_word, to_sector, Act, done, ask, send, execute, put, then}
+use Rattle.card.specs.Acts.{World, Executed, to_word, to_sector, Act, done, send, put, then}
 use Rattle.card.specs.Blocks.{even, modifier, head, sector, key, count, data_address, operation_of, fits, lawful, lawful_status, control_clear, input_fits, input, chaining, chain, argument, sector_now, left}
 use Rattle.card.specs.Calls.{Turn, turn, in_state, with_residual, at_position, is_busy, command_of, meets_busy, known, served}
 use Rattle.card.specs.Rules.{call}
 use Rattle.runs.specs.Runs.{Ran, run}
 use Rattle.runs.specs.Named.{stores_to, processor_stored, names_word, names_sector, some_below, names_by, names, named, found_at}
 use Rattle.runs.specs.Places.{Place, word_place, data_place}
-use Rattle.card.specs.Steps.{failed_passing, finished, executes, checked_head, checked_operation, checked, residual_for, fetched, fetch, move, destination, landed, under_heads, write_ends, sector_failed_passing, sector_done, or_stopped, transferred, words_left, sector_address, verify_sector, read_sector, gathered, write_sector_lem, found, placed, searched_sector, sector_step, status_words, status_sent, send_status, in_hand, step}
-use Rattle.card.specs.Words.{Moved, Fetched, fetch_words, store_words, words_of}
+use Rattle.card.specs.Steps.{failed_passing, finished, checked_head, checked_operation, checked, residual_for, fetched, fetch, move, destination, landed, under_heads, write_ends, sector_failed_passing, sector_done, or_stopped, transferred, words_left, sector_address, verify_sector, read_sector, gathered, write_sector_lem, found, placed, searched_sector, sector_step, status_words, status_sent, send_status, in_hand, step}
+use Rattle.card.specs.Words.{fetch_words, store_words, words_of}
 use Rattle.answers.specs.declared.answer.Answer.TheVariants.{Done, StoreRefused, NothingWaits, Stepped, Idle as NothingToDo}
 use Rattle.answers.specs.declared.answer.Exception.{Exception}
 use Rattle.answers.specs.declared.answer.Exception.TheVariants.{Storage, NoRecordFound, FileDataCheck}

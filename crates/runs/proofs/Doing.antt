@@ -1,8 +1,8 @@
 -- What an act looks at, executes and sends, carried through its parts. Assumes nothing.
-use Rattle.std.proofs.Common.{◌≡◌, ℕ, zero, suc, ◌+◌, ◌%◌, ◌≤◌, Bool, true, false, cond, ◌&&◌, ◌⊎◌, List, [], ◌∷◌, ◌++◌, length, is_ok, Some, None, Ok, Err, Option, sym, refl, ap, ◌∙◌, ap₂, inl, inr, not-suc-le-zero, arith}
+use Rattle.std.proofs.Common.{◌≡◌, ℕ, zero, suc, ◌+◌, ◌%◌, ◌≤◌, Bool, true, false, cond, ◌&&◌, List, [], ◌∷◌, ◌++◌, length, is_ok, Some, None, Ok, Err, sym, refl, ap, ◌∙◌, ap₂, inl, inr, not-suc-le-zero, arith}
 use Rattle.std.proofs.lemmas.Bool.{and_parts, both_ways, true≢false}
 use Rattle.storage.specs.Memory.{Verdict, allowed}
-use Rattle.card.specs.Acts.{World, Query, Reply, word_at, reading, storing, Sent, to_word, Executed, Act, done, ask, send, execute, answer, put, Ended, ended, ends, looked, sent, executed, then}
+use Rattle.card.specs.Acts.{World, Query, Reply, word_at, reading, storing, Sent, to_word, Executed, Act, done, ask, send, execute, answer, put, Ended, ends, looked, sent, executed, then}
 use Rattle.runs.specs.Moments.{can_read, can_store, words_from, allowed_from, Tried, while_allowed, All}
 use Rattle.card.specs.Words.{Moved, Fetched, fetch_words, store_words, residual_of, well, stopped_at}
 use Rattle.card.specs.declared.transfer.Stopped.{Stopped}

@@ -1,6 +1,6 @@
 -- Calls that send nothing to the drive, or to the storage, leave it as it was. Assumes nothing.
-use Rattle.std.proofs.Common.{◌≡◌, ℕ, ◌+◌, ◌<◌, Bool, true, List, ◌∷◌, ◌++◌, length, get_or, drop, set, sym, refl, ap, ◌∙◌, subst, arith}
-use Rattle.std.proofs.lemmas.List.{get_or_default, drop_more, drop-set-lt}
+use Rattle.std.proofs.Common.{◌≡◌, ℕ, ◌+◌, ◌<◌, Bool, true, List, ◌∷◌, ◌++◌, length, get_or, drop, set, sym, ap, ◌∙◌, arith}
+use Rattle.std.proofs.lemmas.List.{drop_more, drop-set-lt}
 use Rattle.answers.specs.declared.answer.Answer.{Answer}
 use Rattle.card.specs.Acts.{World, Sent, Ended, ends, ended, sent}
 use Rattle.card.specs.Calls.{Turn, turn}

@@ -1,7 +1,7 @@
 -- How a run goes on, call by call. Assumes nothing.
-use Rattle.std.proofs.Common.{◌≡◌, ℕ, ◌+◌, ◌<◌, ◌≤◌, List, [], ◌∷◌, ◌++◌, map, length, get_or, take, drop, set, sym, refl, ap, ◌∙◌, ap₂, arith}
+use Rattle.std.proofs.Common.{◌≡◌, ℕ, ◌+◌, ◌<◌, ◌≤◌, List, [], ◌∷◌, ◌++◌, length, get_or, take, drop, set, sym, ap, ◌∙◌, ap₂, arith}
 use Rattle.std.proofs.lemmas.List.{append_assoc, append-nil, get_or_default, map-append, map-set, set-get_or, drop_more, drop_all, drop-set-lt, take_more_set, take_all}
-use Rattle.card.specs.Acts.{World, Ended, Act, done, ends, ended, then}
+use Rattle.card.specs.Acts.{World, Ended, done, ends, ended, then}
 use Rattle.card.specs.Calls.{Turn, turn}
 use Rattle.card.specs.Rules.{call}
 use Rattle.runs.specs.Runs.{Ran, run, calls_of, answers_of}

@@ -1,15 +1,10 @@
 -- Nothing is sent but to a place that the processor stored or an executed block named: carried through the rules. Assumes nothing.
-use Rattle.std.proofs.Common.{◌≡◌, ℕ, zero, suc, ◌+◌, ◌-◌, ◌*◌, ◌/◌, ◌%◌, ◌<◌, ◌≤◌, min, Bool, true, false, cond, not, ◌&&◌, ◌||◌, eqb, ltb, leb, ◌⊎◌, List, [], ◌∷◌, ◌++◌, length, take, Some, None, Ok, Err, Option, Result, sym, refl, ap, ◌∙◌, subst, ap₂, inl, inr, ⊎_elim, not-suc-le-zero, arith}
-use Rattle.std.proofs.lemmas.List.{length-take}
-use Rattle.std.proofs.lemmas.Bool.{cond-true, cond-false, cases_Bool, cases_eq, and_parts, and_from, or_left, or_right, eqb-true, eqb-false, eq-eqb, leb-true, leb-false, le-leb, lt-ltb, ltb-true}
-use Rattle.basics.specs.declared.fault.Fault.{Fault}
-use Rattle.storage.specs.Memory.{Verdict, Memory}
-use Rattle.drive.specs.Disk.{Disk, is_good, same_track}
-use Rattle.drive.specs.Search.{ids, searched, some_of}
+use Rattle.std.proofs.Common.{◌≡◌, ℕ, zero, suc, ◌+◌, ◌*◌, ◌%◌, ◌<◌, Bool, true, false, cond, List, [], ◌∷◌, length, Ok, Err, refl, ◌∙◌, subst, arith}
+use Rattle.storage.specs.Memory.{Verdict}
+use Rattle.drive.specs.Search.{ids}
 use Rattle.drive.specs.declared.geometry.Track.{Track}
-use Rattle.drive.specs.declared.search.NoRecord.{NoRecord}
 use Rattle.card.specs.Acts.{World, Executed, Sent, to_word, to_sector, word_at, Act, done, ask, send, execute, answer, put, then, padded, bytes_of}
-use Rattle.runs.specs.Places.{Place, word_place, data_place, place_of}
+use Rattle.runs.specs.Places.{Place, word_place, place_of}
 use Rattle.card.specs.Words.{Moved, Fetched, fetch_words, store_words, residual_of, well, stopped_at}
 use Rattle.runs.proofs.Sending.{ids_kept}
 

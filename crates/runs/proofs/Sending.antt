@@ -1,18 +1,17 @@
 -- What is sent and looked at decides how a rule comes out, whatever the rule is. Assumes nothing.
-use Rattle.std.proofs.Common.{◌≡◌, ℕ, Bool, true, false, cond, not, ◌&&◌, eqb, ◌⊎◌, List, [], ◌∷◌, ◌++◌, map, sym, refl, ap, ◌∙◌, subst, ap₂, inl, inr, ⊎_elim}
+use Rattle.std.proofs.Common.{◌≡◌, ℕ, Bool, true, false, cond, ◌&&◌, eqb, List, [], ◌∷◌, ◌++◌, map, sym, refl, ap, ◌∙◌, ⊎_elim}
 use mathlib.Core.Path.{fun_ext}
-use Rattle.std.proofs.lemmas.Bool.{cond-true, cond-false, cases_Bool, not-true, not_from_false, or_parts, or_cases, or_right, or_left, or_from, both_ways, false≢true}
+use Rattle.std.proofs.lemmas.Bool.{cond-true, cond-false, cases_Bool, not-true, not_from_false, or_parts, or_cases, both_ways, false≢true}
 use Rattle.std.specs.List.{range_with_len}
-use Rattle.storage.specs.Memory.{Memory}
-use Rattle.drive.specs.Disk.{DataField, Sector, Disk, same_track, with_data, replaced}
+use Rattle.drive.specs.Disk.{Sector, Disk, same_track, with_data, replaced}
 use Rattle.drive.specs.Search.{ids, some_of}
 use Rattle.drive.specs.declared.geometry.Track.{Track}
 use Rattle.drive.specs.declared.sector.Condition.{Condition}
 use Rattle.drive.specs.declared.sector.Condition.TheVariants.{Good}
 use Rattle.drive.specs.declared.sector.IdField.{IdField}
-use Rattle.card.specs.Acts.{World, Query, device_address, head-count, word_at, reading, storing, ids_of, condition_of, data_of, Reply, Sent, to_word, to_sector, Act, done, ask, send, execute, answer, bytes_of, padded, put, Ended, ends, looked, sent}
-use Rattle.runs.specs.Laws.{LastSent, Alike, AlikeWhere}
-use Rattle.runs.specs.Places.{Place, word_place, data_place, Content, a_word, a_field, place_of, content_of, same_place, holds, goes_to, some_to, none_to, Agree}
+use Rattle.card.specs.Acts.{World, Query, device_address, head-count, word_at, reading, storing, ids_of, condition_of, data_of, Reply, Sent, to_word, to_sector, Act, done, ask, send, execute, answer, bytes_of, padded, put, ends, looked, sent}
+use Rattle.runs.specs.Laws.{LastSent, AlikeWhere}
+use Rattle.runs.specs.Places.{Place, word_place, data_place, a_word, a_field, content_of, holds, goes_to, some_to, none_to, Agree}
 
 -- one thing after the other is put into a world
 unfoldable pub puts : List Sent → World → World

@@ -1,5 +1,5 @@
 -- What was neither stored by the processor nor named stays, and so do IDs and verdicts. Assumes nothing.
-use Rattle.std.proofs.Common.{◌≡◌, ℕ, Bool, true, false, cond, ◌&&◌, ◌||◌, eqb, ◌⊎◌, List, [], ◌∷◌, sym, refl, ap, ◌∙◌, subst, ap₂, inl, inr, ⊎_elim}
+use Rattle.std.proofs.Common.{◌≡◌, ℕ, Bool, true, false, cond, ◌&&◌, eqb, ◌⊎◌, List, [], ◌∷◌, sym, refl, ap, ◌∙◌, subst, ap₂, inl, inr, ⊎_elim}
 use Rattle.std.proofs.lemmas.Bool.{and_parts, both_ways, cases_Bool, eqb-true, or_cases, or_from, or_left, or_right, not_from_false}
 use Rattle.drive.specs.Disk.{Sector, same_track, with_data}
 use Rattle.drive.specs.Search.{some_of}
@@ -15,7 +15,7 @@ use Rattle.answers.specs.declared.answer.Answer.{Answer}
 use Rattle.card.specs.declared.call.Call.{Call}
 use Rattle.card.specs.declared.registers.Card.{Card}
 use Rattle.runs.proofs.Auditing.{run_audit}
-use Rattle.runs.proofs.Covering.{Has, Covered, safe_run}
+use Rattle.runs.proofs.Covering.{Covered, safe_run}
 use Rattle.runs.proofs.Safe.{Kept, Safe}
 use Rattle.runs.proofs.Sending.{puts, ends-puts, last_sent, alike_where}
 

@@ -2,7 +2,7 @@
 --   Row          a run: the world it starts in, its calls, what of its end is looked at, and what that has to be
 --   MarkedRuns   at the end of each run of the table one sees what one has to see
 --   FurtherRuns  so one does with three of them again, on another track, with a key, and with the status words asked for
-use Rattle.std.specs.Prelude.{◌≡◌, ℕ, ◌+◌, ◌*◌, ◌/◌, ◌%◌, true, false, cond, List, [], ◌∷◌, ◌++◌, map, replicate, Some, None, Ok, Option, ◌==◌, slice_index_or}
+use Rattle.std.specs.Prelude.{◌≡◌, ℕ, ◌+◌, ◌*◌, ◌/◌, ◌%◌, true, cond, List, [], ◌∷◌, ◌++◌, map, replicate, Some, None, Ok, ◌==◌, slice_index_or}
 use Rattle.storage.specs.Makes.{inside}
 use Rattle.storage.specs.Memory.{Memory}
 use Rattle.drive.specs.Disk.{Sector, Disk, on_drive, blank}
@@ -14,10 +14,8 @@ use Rattle.answers.specs.Exceptions.{exception_number, answer_number}
 use Rattle.runs.specs.Runs.{Ran, run}
 use Rattle.answers.specs.declared.answer.Answer.{Answer}
 use Rattle.answers.specs.declared.answer.Answer.TheVariants.{Accepted, CommandRefused, Done, StoreRefused, Interrupt, NothingWaits, Stepped, Ended as EndedBy, Idle}
-use Rattle.answers.specs.declared.answer.Exception.TheVariants.{Storage}
 use Rattle.card.specs.declared.call.Call.{Call}
 use Rattle.card.specs.declared.call.Call.TheVariants.{Command, Store, Readiness, Service, Step}
-use Rattle.card.specs.declared.registers.Card.{Card}
 
 -- plain storage of 65,536 bytes, all words zero
 abbrev pub empty_memory : Memory

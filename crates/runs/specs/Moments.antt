@@ -20,7 +20,6 @@
 --   Audited           a call looks at nothing but what it may, and its rule executes and sends exactly this
 --   looked_in, executed_in, sent_in   what a run of calls from a start looks at, executes and sends, in order
 use Rattle.std.specs.Prelude.{◌≡◌, ℕ, zero, suc, ◌+◌, ◌-◌, ◌*◌, ◌/◌, ◌%◌, min, Bool, true, false, cond, not, ◌&&◌, ◌⊎◌, List, [], ◌∷◌, ◌++◌, take, is_ok, Some, None, Ok, Err, Option, Result, ◌==◌, nat_lt}
-use Rattle.storage.specs.Memory.{Memory}
 use Rattle.drive.specs.Disk.{is_good}
 use Rattle.drive.specs.Search.{ids, searched}
 use Rattle.drive.specs.declared.geometry.Track.{Track}

@@ -6,7 +6,7 @@
 --   names_by, names_for, names   what a block names: Read Data and status their words, Write Data its data, the others nothing
 --   named        what one of the executed blocks names
 --   Untouched    at the end of a run every place that is neither is as it was at the start, and so are IDs, heads, size, verdicts and device
-use Rattle.std.specs.Prelude.{◌≡◌, ℕ, zero, suc, ◌+◌, ◌*◌, ◌%◌, Bool, true, false, ◌&&◌, ◌||◌, List, is_ok, Some, None, Ok, Err, Option, Result, ◌==◌, nat_le, nat_lt}
+use Rattle.std.specs.Prelude.{◌≡◌, ℕ, zero, suc, ◌+◌, ◌*◌, ◌%◌, Bool, false, ◌&&◌, ◌||◌, List, is_ok, Some, None, Ok, Err, Option, Result, ◌==◌, nat_le, nat_lt}
 use Rattle.storage.specs.Memory.{Memory}
 use Rattle.drive.specs.Disk.{Disk, same_track}
 use Rattle.drive.specs.Search.{ids, searched, some_of}

@@ -1,4 +1,4 @@
-use Rattle.std.proofs.Common.{◌≡◌, ℕ, ◌+◌, ◌%◌, ◌≤◌, Bool, true, ◌&&◌, eqb, length, sym, ap, ◌∙◌, ap₂, arith}
+use Rattle.std.proofs.Common.{◌≡◌, ℕ, ◌+◌, ◌%◌, ◌≤◌, Bool, true, ◌&&◌, eqb, sym, ap, ◌∙◌, ap₂, arith}
 use Rattle.std.proofs.lemmas.Bool.{and_left}
 use Rattle.pack.proofs.Below.{every_none, every_more, every_fails}
 use Rattle.pack.specs.Layout.{every_below}
@@ -12,15 +12,15 @@ use Rattle.chained_pack.proofs.chain.chains_clear.Goals as goal
 short : (c : goal.In-Some) → c.in-Some.length ≤ 65535
 short c =
     let d = directory c.args.pack.now in
-    omega (arith, c.in-Some.ensures.1, length_from d.next d.count (d.first c.loop-chain.chain), c.type-inv.pack 6, c.type-inv.pack 7)
+    omega (arith, c.in-Some.ensures.1, length_from d.next d.count (d.first c.loop-chain.chain), c.type_inv.pack 6, c.type_inv.pack 7)
 
 pub loop-chain-init : goal.loop-chain-init
 loop-chain-init c =
     let d = directory c.args.pack.now in
     (every_none (chain_clear d), sym (lengths_none d), omega arith)
 
-pub overflow-add-records : goal.overflow-add-records
-overflow-add-records c = omega (arith, short c, c.loop-chain.invariant.2)
+pub overflow_add-records : goal.overflow_add-records
+overflow_add-records c = omega (arith, short c, c.loop-chain.invariant.2)
 
 pub returns-in-None : goal.returns-in-None
 returns-in-None c =

@@ -14,7 +14,7 @@ pub loop-i-init : goal.loop-i-init
 loop-i-init g c =
     let es = c.args.entries.now in
     let w = world c.args.device (g.D.Drive.meaning c.args.drive.now) (g.S.Storage.meaning c.args.storage.now) in
-    let new = sym c.new_card.ensures in (
+    let new = sym c.new-card.ensures in (
       subst (λ (k : Card). Running new_card es es w w 0 k) new (running_none new_card es es w refl),
       λ spared. (refl, ap (λ (k : Card). spares_drive (sent (run k (calls_of es)) w)) (sym new) ∙ spared),
       λ spared. (refl, ap (λ (k : Card). spares_storage (sent (run k (calls_of es)) w)) (sym new) ∙ spared),

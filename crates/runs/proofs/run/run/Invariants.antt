@@ -1,4 +1,3 @@
-use Rattle.std.proofs.Common.{true}
 use Rattle.card.specs.Acts.{spares_storage, spares_drive, world}
 use Rattle.card.specs.Calls.{new_card}
 use Rattle.runs.proofs.Keeping.{Keeping}

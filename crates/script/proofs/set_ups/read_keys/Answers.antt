@@ -10,20 +10,20 @@ pub loop-word-init : goal.loop-word-init
 unfolding padded
 loop-word-init c = (search rules, keys_start _ _ refl, refl, omega arith)
 
-pub returns-in-err-key : goal.returns-in-err-key
-returns-in-err-key c =
-    let p = err_from_is_err_and c.from-residual.result c.from-residual.ensures.1 in
-    ap result_ok p.1 ∙ sym (sym c.loop-word.invariant.1 ∙ keys_none _ _ _ _ _ c.in-Some.ensures.words c.in-err-key.ensures)
+pub returns-in_err-key : goal.returns-in_err-key
+returns-in_err-key c =
+    let p = err_from_is_err_and c.from_residual.result c.from_residual.ensures.1 in
+    ap result_ok p.1 ∙ sym (sym c.loop-word.invariant.1 ∙ keys_none _ _ _ _ _ c.in-Some.ensures.words c.in_err-key.ensures)
 
 pub loop-word-preserved : goal.loop-word-preserved
 loop-word-preserved c = (
   search rules,
   ap (λ ks. keys_from (c.loop-word.count + 1) ks (words c.in-Some.more.now)) c.put_key.ensures
-      ∙ keys_more c.loop-word.count c.in-ok-key.key c.loop-word.keys c.in-Some.word.now (words c.loop-word.rest.now) (words c.in-Some.more.now) c.in-Some.ensures.words c.in-ok-key.ensures
+      ∙ keys_more c.loop-word.count c.in_ok-key.key c.loop-word.keys c.in-Some.word.now (words c.loop-word.rest.now) (words c.in-Some.more.now) c.in-Some.ensures.words c.in_ok-key.ensures
       ∙ c.loop-word.invariant.1,
-  ap length c.put_key.ensures ∙ length-set c.loop-word.keys c.loop-word.count c.in-ok-key.key ∙ c.loop-word.invariant.2,
+  ap length c.put_key.ensures ∙ length-set c.loop-word.keys c.loop-word.count c.in_ok-key.key ∙ c.loop-word.invariant.2,
   omega (arith, c.loop-word.invariant.3, c.in-Some.ensures.shorter),
 )
 
 pub returns : goal.returns
-returns c = sym (sym c.loop-word.invariant.1 ∙ keys_end c.loop-word.count c.loop-word.keys (words c.loop-word.rest.now) c.in-default.ensures.words)
+returns c = sym (sym c.loop-word.invariant.1 ∙ keys_end c.loop-word.count c.loop-word.keys (words c.loop-word.rest.now) c.in_default.ensures.words)

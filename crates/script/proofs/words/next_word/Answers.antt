@@ -25,5 +25,5 @@ returns-then-is_empty c =
 pub returns-else-is_empty : goal.returns-else-is_empty
 returns-else-is_empty c =
     let some : 0 < length c.loop-front.rest.now = omega (arith, false-eqb _ _ c.if-is_empty.ensures) in
-    let free = split_parts 32 c.loop-front.rest.now None c.in-default.ensures.cases (lit< tt) in
+    let free = split_parts 32 c.loop-front.rest.now None c.in_default.ensures.cases (lit< tt) in
     record { words = left_one c.args.text.now c.loop-front.rest.now (c.loop-front.invariant.1, c.loop-front.invariant.2) free some; shorter = omega (arith, c.loop-front.invariant.2) }

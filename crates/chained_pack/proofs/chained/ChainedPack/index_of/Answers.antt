@@ -18,16 +18,16 @@ small b s t x lawful same heads hc hd =
     let here : heads_of s ≡ heads_of b = ap heads_of same in
     track_small t.cylinder t.head x hc hd (omega arith)
 
-pub overflow-mul-number : goal.overflow-mul-number
-overflow-mul-number c =
+pub overflow_mul-number : goal.overflow_mul-number
+overflow_mul-number c =
     omega (
       arith,
       small c.args.self.now.bytes.items c.as_slice-bytes.result.now c.args.track c.heads-heads.result c.args.self.now.lawful
           c.as_slice-bytes.ensures.value c.heads-heads.ensures c.if-track-ge-CYLINDERS.false c.if-track-heads.false,
     )
 
-pub overflow-add-number : goal.overflow-add-number
-overflow-add-number c =
+pub overflow_add-number : goal.overflow_add-number
+overflow_add-number c =
     omega (
       arith,
       small c.args.self.now.bytes.items c.as_slice-bytes.result.now c.args.track c.heads-heads.result c.args.self.now.lawful

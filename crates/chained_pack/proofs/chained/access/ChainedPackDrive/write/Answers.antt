@@ -17,12 +17,13 @@ invariant_of-self c =
     let found = sym c.in-Some.ensures.found in
     let len = pack.bytes.ok.0 in
     let items = with_items_is pack.bytes c.put_data.new.pack (omega arith) ∙ c.put_data.ensures
-    ∙ ap₂ (λ (l : List ℕ) (at : ℕ). data_put l at new) c.as_mut_slice.ensures.value c.start.ensures in (
-      ap is_lawful items
+    ∙ ap₂ (λ (l : List ℕ) (at : ℕ). data_put l at new) c.as_mut_slice.ensures.value c.start.ensures in
+    record {
+      lawful =
+          ap is_lawful items
           ∙ lawful_kept b new i (omega arith) (found_low b c.args.track c.args.place i found)
-          (found_within b c.args.track c.args.place i found (clear_parts b pack.lawful).long) pack.lawful,
-      tt,
-    )
+          (found_within b c.args.track c.args.place i found (clear_parts b pack.lawful).long) pack.lawful;
+    }
 
 pub returns : goal.returns
 returns c =

@@ -1,5 +1,5 @@
 -- What is printed is read back.
-use Rattle.std.proofs.Common.{◌≡◌, ℕ, ◌<◌, ◌≤◌, Bool, true, false, cond, ltb, List, [], ◌∷◌, ◌++◌, map, length, Some, None, codes, Option, sym, refl, ap, ◌∙◌, subst, arith, lit<, lit≤, ltb-true}
+use Rattle.std.proofs.Common.{◌≡◌, ℕ, ◌<◌, ◌≤◌, Bool, true, false, cond, ltb, List, [], ◌∷◌, map, length, Some, codes, refl, ap, ◌∙◌, subst, arith, lit<, lit≤, ltb-true}
 use Rattle.std.specs.Option.{option_map}
 use Rattle.std.specs.Char.{digit_value}
 use Rattle.card.specs.declared.call.Call.{Call}
@@ -7,15 +7,14 @@ use Rattle.card.specs.declared.call.Call.TheVariants.{Command, Halt, Store, Read
 use Rattle.script.specs.declared.line.Line.TheVariants.{Blank, Call as Calls}
 use Rattle.script.specs.declared.verb.CallVerb.{CallVerb}
 use Rattle.script.specs.declared.verb.CallVerb.TheVariants.{Command as CommandVerb, Step as StepVerb, Service as ServiceVerb, Ready as ReadyVerb, Unready as UnreadyVerb, Halt as HaltVerb, Store as StoreVerb}
-use Rattle.script.specs.Figures.{word, byte, address, hex, hex_address, number}
-use Rattle.script.specs.Laws.{Whole, ReadBack, call_script, Sayable, ScriptReadBack}
-use Rattle.script.specs.Printings.{spaced, sayable, call_verb, call_words, call_line}
+use Rattle.script.specs.Figures.{word, byte, address, hex, hex_address}
+use Rattle.script.specs.Laws.{Whole, ReadBack, call_script, ScriptReadBack}
+use Rattle.script.specs.Printings.{sayable, call_verb, call_words, call_line}
 use Rattle.script.specs.Readings.{command_of, store_of, call_of, line_of}
-use Rattle.script.specs.Takes.{after}
 use Rattle.script.specs.Verbs.{call_text, verbs, verb_among, verb_of}
 use Rattle.script.specs.Words.{words, lines, pieces, filled, unreturned}
 use Rattle.script.proofs.Clean.{AllFree, AllSome, absent, free_from, free_digits, words-spaced, free_spaced, unreturned_free}
-use Rattle.script.proofs.Cutting.{Free, lines_free, lines_cut}
+use Rattle.script.proofs.Cutting.{Free, lines_cut}
 use Rattle.script.proofs.Digits.{address_short}
 use Rattle.script.proofs.Hexes.{hex_digits, hex_says, hex_some}
 

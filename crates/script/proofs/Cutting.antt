@@ -1,5 +1,5 @@
 -- A text cut at a byte, and what its words and lines are then.
-use Rattle.std.proofs.Common.{◌≡◌, ℕ, suc, ◌<◌, ◌≤◌, Bool, true, false, cond, eqb, List, [], ◌∷◌, ◌++◌, map, length, get_or, sym, refl, ap, ◌∙◌, arith, length-append, eq-eqb, ne_eqb}
+use Rattle.std.proofs.Common.{◌≡◌, ℕ, suc, ◌<◌, ◌≤◌, false, cond, eqb, List, [], ◌∷◌, ◌++◌, map, length, get_or, sym, refl, ap, ◌∙◌, arith, length-append, eq-eqb, ne_eqb}
 use Rattle.script.specs.Words.{begun, pieces, filled, words, unreturned, lines}
 
 -- no byte c

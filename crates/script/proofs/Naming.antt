@@ -1,5 +1,6 @@
 -- The verb or the kind that a word is, looked for along a list, and the line that begins with it.
-use Rattle.std.proofs.Common.{◌≡◌, ℕ, suc, ◌+◌, ◌<◌, ◌≤◌, Bool, true, false, cond, eqb, List, [], ◌∷◌, length, get_or, drop, Some, None, codes, Option, sym, refl, ap, ◌∙◌, inl, inr, add-one, drop-cons, eq-eqb, ne_eqb}
+use Rattle.std.proofs.Common.{◌≡◌, ℕ, suc, ◌+◌, ◌<◌, ◌≤◌, Bool, true, false, cond, List, [], ◌∷◌, length, get_or, drop, Some, None, codes, Option, sym, refl, ap, ◌∙◌, inl, inr, add-one, drop-cons, eq-eqb, ne_eqb}
+use borrow.Author.Tests.{both_ways}
 use Rattle.std.proofs.lemmas.Slice.Eq.{bytes_eq-Decides}
 use Rattle.std.proofs.lemmas.List.{drop_all}
 use Rattle.std.proofs.lemmas.Bool.{cases_Bool}
@@ -16,6 +17,13 @@ same_true xs ys e = (bytes_eq-Decides xs ys).1 e
 
 pub same_false : (xs ys : List ℕ) → (xs ≡ ys → ⊥) → bytes_eq xs ys ≡ false
 same_false xs ys h = elim (cases_Bool (bytes_eq xs ys)) [ inl t ↦ absurd (h ((bytes_eq-Decides xs ys).0 t)) | inr f ↦ f ]
+
+-- what a comparison of two texts answered
+pub found_same : (xs ys : List ℕ) (b : Bool) → b ≡ bytes_eq xs ys → b ≡ true → xs ≡ ys
+found_same xs ys b is yes' = (bytes_eq-Decides xs ys).0 (sym is ∙ yes')
+
+pub found_other : (xs ys : List ℕ) (b : Bool) → b ≡ bytes_eq xs ys → b ≡ false → xs ≡ ys → ⊥
+found_other xs ys b is no' e = both_ways b no' (is ∙ (bytes_eq-Decides xs ys).1 e)
 
 step : (vs : List Verb) (w : List ℕ) (i : ℕ) (d : Verb) → i < length vs → verb_among (drop i vs) w ≡ cond (bytes_eq w (verb_text (get_or vs i d))) (Some (get_or vs i d)) (verb_among (drop (suc i) vs) w)
 unfolding verb_among

@@ -9,7 +9,7 @@
 --   refused_text  a refusal by its number and its word
 --   answer_text   an answer, without the verb in front
 --   answer_line   the answer of a call as its line
-use Rattle.std.specs.Prelude.{ℕ, Bool, true, false, cond, List, [], ◌∷◌, ◌++◌, codes, decimal, nat_lt}
+use Rattle.std.specs.Prelude.{ℕ, Bool, true, cond, List, [], ◌∷◌, ◌++◌, codes, decimal, nat_lt}
 use Rattle.basics.specs.Numbers.{fault_number, fault_word}
 use Rattle.answers.specs.Exceptions.{command_number, command_word, command_code, exception_number, exception_word, layer_of, layer_word, answer_number, answer_word}
 use Rattle.answers.specs.declared.answer.Answer.{Answer}

@@ -14,8 +14,8 @@ weigh-behind-requires g c =
 pub returns : goal.returns
 returns g c =
     let s = (g.D.Drive.meaning c.args.drive.now).sector c.args.track c.args.place in
-    let listed = front_from s c.id_field.result c.data_condition.result c.condition_byte.result c.condition_byte-2.result
-    c.id_field.ensures c.data_condition.ensures c.condition_byte.ensures c.condition_byte-2.ensures in
+    let listed = front_from s c.id-field.result c.data_condition.result c.condition_byte.result c.condition_byte-2.result
+    c.id-field.ensures c.data_condition.ensures c.condition_byte.ensures c.condition_byte-2.ensures in
     let first : c.weigh.result ≡ weighed 1 (front s) % turn = c.weigh.ensures ∙ ap (λ xs. weighed 1 xs % turn) listed in
     elim c.match-read.branch [
       | in-Ok w ↦ place_good (front s) s.datum.bytes (is_good s.id.condition) c.weigh.result c.match-read.behind refl first

@@ -1,4 +1,4 @@
-use Rattle.std.proofs.Common.{◌≡◌, true, get_or, sym, arith, lit<, lit≤}
+use Rattle.std.proofs.Common.{sym, arith, lit<, lit≤}
 use borrow.Author.Tests.{both_ways}
 use Rattle.std.proofs.lemmas.Str.Pattern.{starts_char}
 use Rattle.script.proofs.Reading.{number_plus, number_ok, number_large, number_err}

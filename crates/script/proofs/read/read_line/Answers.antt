@@ -1,4 +1,4 @@
-use Rattle.std.proofs.Common.{Some, None, sym, ap, ◌∙◌, lit<}
+use Rattle.std.proofs.Common.{Some, None, ◌∙◌, lit<}
 use borrow.Author.Tests.{both_ways}
 use Rattle.std.proofs.lemmas.Str.Pattern.{starts_char}
 use Rattle.script.proofs.Naming.{line_none, line_comment, line_verb}

@@ -1,4 +1,4 @@
-use Rattle.std.proofs.Common.{◌≡◌, ◌<◌, ◌≤◌, length, Some, None, arith, lit<, rules, true-eqb, false-eqb}
+use Rattle.std.proofs.Common.{◌<◌, ◌≤◌, length, Some, None, arith, lit<, rules, true-eqb, false-eqb}
 use Rattle.std.proofs.lemmas.Str.Pattern.{split_parts}
 use Rattle.script.proofs.Cutting.{left_cut, left_space, left_none, left_one}
 use Rattle.script.proofs.words.next_word.Goals as goal

@@ -2,10 +2,10 @@
 use Rattle.std.proofs.Common.{◌≡◌, ℕ, zero, suc, ◌+◌, ◌*◌, ◌/◌, ◌%◌, ◌<◌, ◌≤◌, Bool, true, false, cond, ◌&&◌, eqb, ltb, ◌≢◌, sym, refl, ap, ◌∙◌, subst, ap₂, not-suc-le-zero, mod-lt, div-lt_iff_lt-mul, add-one, arith, lit<}
 use lib.Arith.{digits_lt, digits_div, digits_mod}
 use Rattle.std.proofs.lemmas.Bool.{cond-true, cond-false, and_parts, and_from, eqb-true, eq-eqb, lt-ltb, false≢true}
-use Rattle.drive.specs.Disk.{Disk, Sector, on_drive, same_track}
+use Rattle.drive.specs.Disk.{Disk, on_drive, same_track}
 use Rattle.drive.specs.declared.geometry.Track.{Track}
 use Rattle.pack.specs.Fresh.{fresh_sector, refreshed}
-use Rattle.pack.specs.Numbers.{On, on_parts, on_from}
+use Rattle.pack.specs.Numbers.{on_parts, on_from}
 use Rattle.machine.specs.Freshness.{fresh_up_to, AllFresh}
 use Rattle.machine.specs.Tracks.{track_at}
 

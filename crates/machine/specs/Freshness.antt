@@ -9,7 +9,6 @@ use Rattle.drive.specs.Disk.{Disk, on_drive}
 use Rattle.drive.specs.declared.geometry.Track.{Track}
 use Rattle.pack.specs.Fresh.{fresh_sector, fresh_track, refreshed}
 use Rattle.pack.specs.Plain.{place_number, heads_of, plain_disk}
-use Rattle.machine.specs.Makes.{any_disk}
 use Rattle.machine.specs.Tracks.{track_at}
 use Rattle.machine.specs.declared.any_pack.AnyPack.{AnyPack}
 use Rattle.machine.specs.declared.any_pack.AnyPack.TheVariants.{Plain, Chained}

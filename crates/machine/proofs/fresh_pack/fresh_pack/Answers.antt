@@ -1,4 +1,4 @@
-use Rattle.std.proofs.Common.{◌≡◌, ℕ, ◌*◌, Some, vec_items, sym, ap, ◌∙◌, subst}
+use Rattle.std.proofs.Common.{ℕ, ◌*◌, Some, vec_items, sym, ap, ◌∙◌, subst}
 use Rattle.drive.specs.Disk.{Disk}
 use Rattle.pack.specs.Plain.{plain_disk}
 use Rattle.machine.specs.Freshness.{AllFresh}

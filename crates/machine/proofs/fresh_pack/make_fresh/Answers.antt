@@ -1,4 +1,4 @@
-use Rattle.std.proofs.Common.{◌≡◌, ◌*◌, ◌<◌, ◌≤◌, vec_items, sym, arith}
+use Rattle.std.proofs.Common.{◌≤◌, vec_items, sym, arith}
 use Rattle.pack.specs.Plain.{plain_disk}
 use Rattle.machine.proofs.AllTracks.{fresh_none, fresh_step}
 use Rattle.machine.proofs.fresh_pack.make_fresh.Goals as goal

@@ -1,4 +1,4 @@
-use Rattle.std.proofs.Common.{◌≡◌, ◌*◌, vec_items}
+use Rattle.std.proofs.Common.{◌≡◌, vec_items}
 use Rattle.pack.specs.Plain.{plain_disk}
 use Rattle.machine.specs.Freshness.{fresh_up_to}
 use Rattle.machine.proofs.fresh_pack.make_fresh.Given as goal

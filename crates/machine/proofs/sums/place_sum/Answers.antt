@@ -1,4 +1,4 @@
-use Rattle.std.proofs.Common.{◌≡◌, ◌%◌, true, false, length, sym, refl, ap, ◌∙◌, arith}
+use Rattle.std.proofs.Common.{◌≡◌, ◌%◌, length, refl, ap, ◌∙◌, arith}
 use Rattle.drive.specs.Disk.{is_good}
 use Rattle.drive.specs.Defective.{good_from}
 use Rattle.machine.specs.Sums.{weighed, front}

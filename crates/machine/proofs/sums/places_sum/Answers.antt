@@ -1,4 +1,4 @@
-use Rattle.std.proofs.Common.{◌≡◌, ℕ, ◌+◌, ◌*◌, ◌%◌, refl, ap, ◌∙◌, ap₂, arith}
+use Rattle.std.proofs.Common.{◌≡◌, ℕ, ◌*◌, ◌%◌, refl, ap, ◌∙◌, ap₂, arith}
 use native.Mathlib.Nat.{mod-mod}
 use Rattle.drive.specs.declared.geometry.Track.{Track}
 use Rattle.machine.specs.Sums.{summed, track_sum, places_sum}

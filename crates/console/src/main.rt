@@ -12,6 +12,7 @@ mod script_file;
 mod set_up;
 mod show;
 
+use anyhow::anyhow;
 use std::env;
 
 const USAGE: &str = "usage: console [run SCRIPT], where - is standard input";
@@ -48,7 +49,7 @@ fn perform(rt: &HostRuntime) -> anyhow::Result<()> {
         Task::Run(name) => lines::run(rt, name.as_str()),
         Task::Wrong(what) => {
             eprintln!(rt; "{USAGE}")?;
-            Err(what.into())
+            Err(anyhow!("{what}"))
         }
     }
 }

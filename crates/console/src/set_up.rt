@@ -1,5 +1,6 @@
 // Set-up lines, done.
 use crate::begin;
+use anyhow::anyhow;
 use basics::handed_back::HandedBack;
 use basics::refusal::Refusal;
 use drive::defect::Defect;
@@ -96,7 +97,7 @@ fn fresh_track(machine: Machine, track: Track) -> After {
     match machine.fresh_track(track) {
         Ok(machine) => done(machine),
         Err(NotFresh::NotPlain(machine)) => {
-            unreadable(machine, "a chained pack has no fresh tracks".into())
+            unreadable(machine, anyhow!("a chained pack has no fresh tracks"))
         }
         Err(NotFresh::Refused(back)) => tried(Err(back)),
     }

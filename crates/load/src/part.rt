@@ -33,12 +33,14 @@ impl Calls {
 
     // words stored by the processor, from an address on
     pub fn words(&mut self, address: u32, words: &[u16]) -> anyhow::Result<()> {
-        for (i, word) in words.iter().enumerate() {
+        let mut address = address;
+        for word in words {
             self.ask(Call::Store {
-                address: address.saturating_add(2u32.saturating_mul(i as u32)),
+                address,
                 key: 0,
                 word: *word,
             })?;
+            address = address.saturating_add(2);
         }
         Ok(())
     }

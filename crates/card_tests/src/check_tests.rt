@@ -359,7 +359,7 @@ fn check_blocks(
     expect(rt, &mut machine, Ask::Ready, Said::Done)?;
     expect(rt, &mut machine, Ask::Command(0x6003, 0x0001), OK)?;
     for case in cases {
-        check_block(rt, &mut machine, command, residual, case).note(case.0)?;
+        check_block(rt, &mut machine, command, residual, case)?;
     }
     Ok(())
 }

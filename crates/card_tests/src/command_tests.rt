@@ -3,6 +3,7 @@ use crate::look::position;
 use crate::machine::new_machine;
 use crate::said::*;
 use crate::turns::*;
+use std::test::Fail;
 
 static FREE: [Turn; 18] = [
     Turn("read device ID", Ask::Command(0x2003, 0xFFFF), TWO_HEADS),
@@ -241,7 +242,7 @@ fn levels(rt: HostRuntime) -> Result<(), Fail> {
         (0xFFE1, 0, true),
         (0xFFFF, 15, true),
     ] {
-        expect(&rt, &mut machine, Ask::Command(0x6003, word), OK).note(word)?;
+        expect(&rt, &mut machine, Ask::Command(0x6003, word), OK)?;
         let card = machine.card();
         assert_eq!(rt; (card.level, card.enabled), (level, enabled), "{}", word);
     }

@@ -3,6 +3,7 @@ use crate::said::*;
 use crate::turns::*;
 use pack::plain_pack::PlainPack;
 use runs::run::run;
+use std::test::Fail;
 use storage::plain::Plain;
 
 static THREE_HEADS: [Turn; 27] = [

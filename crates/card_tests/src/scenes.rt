@@ -104,7 +104,7 @@ fn play_scene(rt: &impl Abort, heap: Global, scene: &Scene) -> Result<(), Fail> 
 
 pub fn play_scenes(rt: &impl Abort, heap: Global, scenes: &[Scene]) -> Result<(), Fail> {
     for scene in scenes {
-        play_scene(rt, heap, scene).note(scene.name)?;
+        play_scene(rt, heap, scene)?;
     }
     Ok(())
 }

@@ -104,7 +104,7 @@ pub fn play_stages(
 ) -> Result<(), Fail> {
     let mut machine = furnished(rt, heap, marks)?;
     for stage in stages {
-        play_stage(rt, &mut machine, stage).note(stage.0)?;
+        play_stage(rt, &mut machine, stage)?;
     }
     check_words(rt, &machine, words)
 }

@@ -5,6 +5,7 @@ use crate::stages::*;
 use crate::turns::{Ask, expect};
 use std::alloc::Global;
 use std::process::Abort;
+use std::test::Fail;
 
 const DEVICE_END: (Ask, Said) = (Ask::Service, Said::Interrupt(3, 0x0003));
 
@@ -749,7 +750,7 @@ fn play_sending(rt: &impl Abort, heap: Global, sending: &Sending) -> Result<(), 
 #[test]
 fn status_is_sent(rt: HostRuntime) -> Result<(), Fail> {
     for sending in &SENDINGS {
-        play_sending(&rt, rt.alloc(), sending).note(sending.0)?;
+        play_sending(&rt, rt.alloc(), sending)?;
     }
     Ok(())
 }

@@ -75,7 +75,12 @@ pub fn entries(heap: Global, turns: &[Turn]) -> Result<Vec<Entry>, AllocError> {
 fn play_singly(rt: &impl Abort, heap: Global, turns: &[Turn]) -> Result<(), Fail> {
     let mut machine = new_machine(heap)?;
     for turn in turns {
-        expect(rt, &mut machine, turn.1, turn.2).note(turn.0)?;
+        assert_eq!(rt;
+            answered(machine.carry_out(turn.1.call())),
+            turn.2,
+            "{}",
+            turn.0
+        );
     }
     Ok(())
 }
@@ -100,5 +105,5 @@ fn play_whole(rt: &impl Abort, heap: Global, turns: &[Turn]) -> Result<(), Fail>
 // Plays the calls on a new card, both ways.
 pub fn play(rt: &impl Abort, heap: Global, turns: &[Turn]) -> Result<(), Fail> {
     play_singly(rt, heap, turns)?;
-    play_whole(rt, heap, turns).note("as one list")
+    play_whole(rt, heap, turns)
 }

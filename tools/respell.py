@@ -29,6 +29,17 @@ BY_HAND = {
     "same-track": "same_track_lem",
     "same-track-on": "same_track_on",
     "line-of": "line_of_lem",
+    # a plain word that happens to be a definition's name as well
+    "head-count": "head_count",
+    "front-word": "front_word",
+    "count-every": "count_every",
+    "every-step": "every_step",
+    "first-sent": "first_sent",
+    "word-named": "word_named",
+    "words-spaced": "words_spaced",
+    "made-directory": "made_directory",
+    "run-executes": "run_executes",
+    "fetch-well": "fetch_well",
     # a definition that would have the name of a field
     "writeSector": "write_sector_lem",
     "idWord": "waiting_words",
@@ -39,7 +50,7 @@ LIBRARY = set("length get_or take drop set replicate append map puts".split())
 
 # What the check names: these are never the repository's own.
 GOAL = re.compile(
-    r"^(returns|loop|invariant|decreases|overflow|nonzero|bounds|slice_bounds|offset_bounds|prove|then|else|in|in_ok"
+    r"^(returns|loop|invariant|invariant_of|decreases|overflow|nonzero|bounds|slice_bounds|offset_bounds|prove|then|else|in|in_ok"
     r"|in_err|if|find-requires|head-front-requires|head-index-requires|is-first-requires|weigh-requires"
     r"|weigh-behind-requires)(-|_add|_mul|_sub)|-requires$"
 )

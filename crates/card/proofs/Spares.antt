@@ -40,10 +40,10 @@ drive_back (to_word a x ∷ xs) ys e = drive_back xs ys e
 drive_back (to_sector t p ws ∷ xs) ys e = absurd (false≢true e)
 
 -- a store that is allowed is sent
-first-sent : (ws : List ℕ) (a k r : ℕ) (w : World) (u : Unit {0}) → 0 < length ws → Ok u ≡ w.memory.stores a (k % 8) → spares_storage (sent (store_words ws a k r) w) ≡ true → ⊥
+first_sent : (ws : List ℕ) (a k r : ℕ) (w : World) (u : Unit {0}) → 0 < length ws → Ok u ≡ w.memory.stores a (k % 8) → spares_storage (sent (store_words ws a k r) w) ≡ true → ⊥
 unfolding store_words
-first-sent [] a k r w u some ok spared = not-suc-le-zero some
-first-sent (x ∷ xs) a k r w u some ok spared = false≢true (ap (λ (v : Verdict). spares_storage (sent (after v) w)) ok ∙ spared) where
+first_sent [] a k r w u some ok spared = not-suc-le-zero some
+first_sent (x ∷ xs) a k r w u some ok spared = false≢true (ap (λ (v : Verdict). spares_storage (sent (after v) w)) ok ∙ spared) where
   after : Verdict → Act Moved
   after (Ok _) = send (to_word a x) (store_words xs (a + 2) k (residual_of a))
   after (Err f) = done (stopped_at r f a)
@@ -52,7 +52,7 @@ pub not_spared : (ws : List ℕ) (a k r v : ℕ) (d : Disk) (m m₀ : Memory) (i
     → Ok u ≡ m.stores (a + 2 * i) (k % 8) → spares_storage (sent (store_words ws a k r) (world v d m₀)) ≡ true → ⊥
 not_spared ws a k r v d m m₀ i u none same some ok spared =
     let here : a + 2 * i ≡ a = omega arith in
-    first-sent ws a k r (world v d m₀) u some (ok ∙ ap₂ (λ (n : Memory) (b : ℕ). n.stores b (k % 8)) same here) spared
+    first_sent ws a k r (world v d m₀) u some (ok ∙ ap₂ (λ (n : Memory) (b : ℕ). n.stores b (k % 8)) same here) spared
 
 -- a sector that is read spares the storage only where its stores do
 pub read_spares : (c : Card) (b : Block) (n : ℕ) (t : Track) (p : ℕ) (w : World) (bytes : List ℕ) (count a k : ℕ)

@@ -35,9 +35,9 @@ module _ (p : Purpose) (c : Card) (a : ℕ) (w : World) (ok : even a ≡ true) w
       ap (λ (t : Act Turn). ends t w) (cond-true (even a) _ (failed c a SpecificationCheck) ok)
       ∙ ends-then (fetch_words 8 a 0 c.residual) (λ f. fetched p (residual_for p c f.moved.residual) a f.words f.moved.stopped) w
 
-  pub fetch-well : (words : List ℕ) (r : ℕ) → ends (fetch_words 8 a 0 c.residual) w ≡ ended record { words = words; moved = well r } w → ends (fetch p c a) w ≡ ends (checked p (residual_for p c r) record { address = a; words = words }) w
+  pub fetch_well : (words : List ℕ) (r : ℕ) → ends (fetch_words 8 a 0 c.residual) w ≡ ended record { words = words; moved = well r } w → ends (fetch p c a) w ≡ ends (checked p (residual_for p c r) record { address = a; words = words }) w
   unfolding after
-  fetch-well words r came = fetch_is ∙ ap after came
+  fetch_well words r came = fetch_is ∙ ap after came
 
   pub fetch_stopped : (v r x : ℕ) (f : Fault) → w.device ≡ v → ((ends (fetch_words 8 a 0 c.residual) w).result.moved ≡ stopped_at r f x) → ((ends (fetch_words 8 a 0 c.residual) w).world ≡ w)
       → ends (fetch p c a) w ≡ ended (failed_turn v false (residual_for p c r) a (Storage f x)) w

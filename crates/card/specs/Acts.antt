@@ -32,7 +32,7 @@ pub record World : Type 0 where
 
 pub data Query : Type 0 where
   device_address : Query
-  head-count : Query
+  head_count : Query
   -- the word at an address, and the verdicts of reading and storing it with a key
   word_at : ℕ → Query
   reading : ℕ → ℕ → Query
@@ -45,7 +45,7 @@ pub data Query : Type 0 where
 
 abbrev pub Reply : Query → Type 0
 Reply device_address = ℕ
-Reply head-count = ℕ
+Reply head_count = ℕ
 Reply (word_at a) = ℕ
 Reply (reading a k) = Verdict
 Reply (storing a k) = Verdict
@@ -82,7 +82,7 @@ spares_drive (to_sector t p ws ∷ ss) = false
 
 abbrev pub answer : (q : Query) → World → Reply q
 answer device_address w = w.device
-answer head-count w = w.disk.heads
+answer head_count w = w.disk.heads
 answer (word_at a) w = w.memory.words a
 answer (reading a k) w = w.memory.reads a k
 answer (storing a k) w = w.memory.stores a k

@@ -7,7 +7,7 @@
 --   reset               what Device Reset and Halt leave
 --   command, halt, store, readiness, service   the rules of these calls
 use Rattle.std.specs.Prelude.{ℕ, ◌+◌, ◌*◌, ◌/◌, ◌%◌, Bool, true, false, cond, not, ◌&&◌, ◌||◌, is_some, Some, None, Ok, Err, Option, ◌==◌, bit_and}
-use Rattle.card.specs.Acts.{Act, done, ask, send, device_address, head-count, storing, to_word}
+use Rattle.card.specs.Acts.{Act, done, ask, send, device_address, head_count, storing, to_word}
 use Rattle.answers.specs.declared.answer.Answer.{Answer}
 use Rattle.answers.specs.declared.answer.Answer.TheVariants.{Accepted, CommandRefused, Done, StoreRefused, Interrupt, NothingWaits}
 use Rattle.answers.specs.declared.answer.CommandRefusal.TheVariants.{NotAttached, InterfaceDataCheck, Busy, CommandReject}
@@ -103,7 +103,7 @@ meets_busy (Some StartCycleStealStatus) = true
 
 -- an accepted command; x is its second word
 abbrev pub accepted : Card → Command → ℕ → Act Turn
-accepted c ReadDeviceId x = ask head-count (λ h. done (turn c (Accepted (cond (h == 3) 0x00CA 0x00AA))))
+accepted c ReadDeviceId x = ask head_count (λ h. done (turn c (Accepted (cond (h == 3) 0x00CA 0x00AA))))
 accepted c Prepare x = done (turn (prepared (x / 2 % 16) (x % 2 == 1) c) (Accepted 0))
 accepted c DeviceReset x = done (turn (reset c) (Accepted 0))
 accepted c Start x = done (turn (in_state (Fetching Operation x) (with_errors (bit_and c.errors 0x013D) c)) (Accepted 0))

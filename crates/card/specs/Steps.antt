@@ -10,7 +10,7 @@ use Rattle.drive.specs.Disk.{is_good}
 use Rattle.drive.specs.Search.{searched}
 use Rattle.drive.specs.declared.geometry.Track.{Track}
 use Rattle.drive.specs.declared.search.NoRecord.{NoRecord}
-use Rattle.card.specs.Acts.{Act, done, ask, send, execute, then, device_address, head-count, ids_of, condition_of, data_of, to_sector}
+use Rattle.card.specs.Acts.{Act, done, ask, send, execute, then, device_address, head_count, ids_of, condition_of, data_of, to_sector}
 use Rattle.card.specs.Blocks.{even, chaining, key, modifier, downward, difference, head, chain, count, data_address, operation_of, lawful, lawful_status, sector_now, argument, left}
 use Rattle.card.specs.Calls.{Turn, turn, in_state, with_waiting, with_errors, with_residual, with_write_sector, at_position, interrupt}
 use Rattle.answers.specs.Exceptions.{status_byte, reasons}
@@ -55,7 +55,7 @@ executes p c b s = execute record { purpose = p; block = b; position = c.positio
 
 -- the head of a seek has to be on the drive; no other operation looks at the head count
 abbrev pub checked_head : Card → Block → Operation → Act Turn
-checked_head c b Seek = ask head-count (λ h. cond (nat_lt (head b) h) (executes ForOperation c b (Moving b)) (failed c b.address SpecificationCheck))
+checked_head c b Seek = ask head_count (λ h. cond (nat_lt (head b) h) (executes ForOperation c b (Moving b)) (failed c b.address SpecificationCheck))
 checked_head c b Recalibrate = executes ForOperation c b (Moving b)
 checked_head c b ReadData = executes ForOperation c b (Sector b 0)
 checked_head c b WriteData = executes ForOperation c b (Sector b 0)

@@ -72,8 +72,8 @@ chained_lawful b lawful =
 made : SectorId → Condition → List ℕ → Condition → Sector
 made i c d e = record { id = record { id = i; condition = c }; datum = record { bytes = d; condition = e } }
 
-made-directory : ℕ → (ℕ → ℕ) → (ℕ → ℕ) → (ℕ → ℕ) → (ℕ → ℕ) → Directory
-made-directory n f g t p = record { count = n; first = f; next = g; track = t; place = p }
+made_directory : ℕ → (ℕ → ℕ) → (ℕ → ℕ) → (ℕ → ℕ) → (ℕ → ℕ) → Directory
+made_directory n f g t p = record { count = n; first = f; next = g; track = t; place = p }
 
 -- the bytes after a write to record i
 module _ (b new : List ℕ) (i : ℕ) (size : length new ≡ 256) (low : 1 ≤ i) (within : start_of i + 268 ≤ length b) where
@@ -107,8 +107,8 @@ module _ (b new : List ℕ) (i : ℕ) (size : length new ≡ 256) (low : 1 ≤ i
   word_kept x below = ap₂ (λ (m n : ℕ). m * 256 + n) (header_kept x (omega arith)) (header_kept (x + 1) below)
 
   -- the first bytes of a record's front: at c, and at the byte behind it
-  front-word : (j c : ℕ) → c < 5 → word_at (data_put b (start_of i) new) (start_of j + c) ≡ word_at b (start_of j + c)
-  front-word j c small =
+  front_word : (j c : ℕ) → c < 5 → word_at (data_put b (start_of i) new) (start_of j + c) ≡ word_at b (start_of j + c)
+  front_word j c small =
       let next : start_of j + c + 1 ≡ start_of j + (c + 1) = omega arith in
       ap₂ (λ (m n : ℕ). m * 256 + n) (front_kept j c (omega arith))
       (ap (λ (x : ℕ). slice_index (data_put b (start_of i) new) x) next ∙ front_kept j (c + 1) (omega arith) ∙ ap (λ (x : ℕ). slice_index b x) (sym next))
@@ -116,18 +116,18 @@ module _ (b new : List ℕ) (i : ℕ) (size : length new ≡ 256) (low : 1 ≤ i
   next_kept : (j : ℕ) → word_at (data_put b (start_of i) new) (start_of j) ≡ word_at b (start_of j)
   next_kept j =
       let here : start_of j ≡ start_of j + 0 = omega arith in
-      ap (word_at (data_put b (start_of i) new)) here ∙ front-word j 0 (lit< tt) ∙ ap (word_at b) (sym here)
+      ap (word_at (data_put b (start_of i) new)) here ∙ front_word j 0 (lit< tt) ∙ ap (word_at b) (sym here)
 
   pub directory_kept : directory (data_put b (start_of i) new) ≡ directory b
-  unfolding made-directory
+  unfolding made_directory
   directory_kept =
       let firsts : (k : ℕ) → (directory (data_put b (start_of i) new)).first k ≡ (directory b).first k =
       λ k. let small = mod-lt k {m = 64} (lit< tt) in word_kept (8 + k % 64 * 2) (omega arith) in
-      ap₂ (λ (n : ℕ) (f : ℕ → ℕ). made-directory n f (directory (data_put b (start_of i) new)).next (directory (data_put b (start_of i) new)).track (directory (data_put b (start_of i) new)).place)
+      ap₂ (λ (n : ℕ) (f : ℕ → ℕ). made_directory n f (directory (data_put b (start_of i) new)).next (directory (data_put b (start_of i) new)).track (directory (data_put b (start_of i) new)).place)
       (word_kept 6 (lit< tt)) (fun_ext firsts)
-      ∙ ap₂ (λ (f g : ℕ → ℕ). made-directory (directory b).count (directory b).first f g (directory (data_put b (start_of i) new)).place)
-      (fun_ext next_kept) (fun_ext (λ j. front-word j 2 (lit< tt)))
-      ∙ ap (λ (f : ℕ → ℕ). made-directory (directory b).count (directory b).first (directory b).next (directory b).track f)
+      ∙ ap₂ (λ (f g : ℕ → ℕ). made_directory (directory b).count (directory b).first f g (directory (data_put b (start_of i) new)).place)
+      (fun_ext next_kept) (fun_ext (λ j. front_word j 2 (lit< tt)))
+      ∙ ap (λ (f : ℕ → ℕ). made_directory (directory b).count (directory b).first (directory b).next (directory b).track f)
       (fun_ext (λ j. front_kept j 4 (lit< tt)))
 
   heads_kept : heads_of (data_put b (start_of i) new) ≡ heads_of b
@@ -150,7 +150,7 @@ module _ (b new : List ℕ) (i : ℕ) (size : length new ≡ 256) (low : 1 ≤ i
       let front : (nat_lt (head_of (data_put b (start_of i) new) j).track (303 * heads_of (data_put b (start_of i) new)) && nat_lt (head_of (data_put b (start_of i) new) j).place 60 && nat_le (head_of (data_put b (start_of i) new) j).id_condition 1)
       ≡ (nat_lt h.track (303 * heads_of b) && nat_lt h.place 60 && nat_le h.id_condition 1) =
       ap₂ (λ (x y : Bool). x && y)
-      (ap₂ (λ (x y : Bool). x && y) (ap₂ (λ (x y : ℕ). ltb x (303 * y)) (front-word j 2 (lit< tt)) heads_kept) (ap (λ (x : ℕ). ltb x 60) (front_kept j 4 (lit< tt))))
+      (ap₂ (λ (x y : Bool). x && y) (ap₂ (λ (x y : ℕ). ltb x (303 * y)) (front_word j 2 (lit< tt)) heads_kept) (ap (λ (x : ℕ). ltb x 60) (front_kept j 4 (lit< tt))))
       (ap (λ (x : ℕ). leb x 1) (front_kept j 5 (lit< tt))) in
       and_from
       (nat_lt (head_of (data_put b (start_of i) new) j).track (303 * heads_of (data_put b (start_of i) new)) && nat_lt (head_of (data_put b (start_of i) new) j).place 60 && nat_le (head_of (data_put b (start_of i) new) j).id_condition 1)

@@ -30,12 +30,12 @@ module _ (test : ℕ → Bool) where
       (λ no'. omega (arith, count_le n, cond-false {A = ℕ} (test (n + 1)) 1 0 no'))
       (cases_Bool (test (n + 1)))
 
-  pub count-every : (n : ℕ) → every_below (λ j. test (j + 1)) n ≡ true → count_to test n ≡ n
+  pub count_every : (n : ℕ) → every_below (λ j. test (j + 1)) n ≡ true → count_to test n ≡ n
   unfolding count_to every_below
-  count-every zero all = refl
-  count-every (suc n) all =
+  count_every zero all = refl
+  count_every (suc n) all =
       let parts = and_parts (every_below (λ j. test (j + 1)) n) (test (n + 1)) all in
-      omega (arith, count-every n parts.0, cond-true {A = ℕ} (test (n + 1)) 1 0 parts.1)
+      omega (arith, count_every n parts.0, cond-true {A = ℕ} (test (n + 1)) 1 0 parts.1)
 
   pub every_counted : (n : ℕ) → count_to test n ≡ n → every_below (λ j. test (j + 1)) n ≡ true
   unfolding count_to every_below

@@ -9,7 +9,7 @@ use Rattle.drive.specs.Search.{some_of}
 use Rattle.pack.specs.Layout.{every_below}
 use Rattle.pack.proofs.Below.{every_at}
 use Rattle.chained_pack.specs.Chains.{Directory, chain_from, end_from, each_of, chain_of, every_record, belongs, chain_clear, on_chain}
-use Rattle.chained_pack.specs.Counting.{count_to, count_none, count_same, count_list, count-every, every_counted}
+use Rattle.chained_pack.specs.Counting.{count_to, count_none, count_same, count_list, count_every, every_counted}
 use Rattle.chained_pack.specs.Walks.{each_at, at_zero, from_more, apart_from}
 
 pub record_at : (d : Directory) (test : ℕ → Bool) (i : ℕ) → every_record d test ≡ true → 1 ≤ i → i ≤ d.count → test i ≡ true
@@ -128,6 +128,6 @@ module _ (d : Directory) where
       (cases_Bool (on_below d 64 i)) in
       let total = sym (count_same (λ i. on_chain d (d.track i % 64) i) (on_below d 64) d.count (λ i l h. same i)) ∙ counted 64 clear in
       ⊎_elim
-      (λ all. all ∙ sym (eq-eqb (lengths_below d 64) d.count (sym total ∙ count-every (λ i. on_chain d (d.track i % 64) i) d.count all)))
+      (λ all. all ∙ sym (eq-eqb (lengths_below d 64) d.count (sym total ∙ count_every (λ i. on_chain d (d.track i % 64) i) d.count all)))
       (λ some. some ∙ sym (ne_eqb (lengths_below d 64) d.count (λ e. both_ways (every_record d (λ i. on_chain d (d.track i % 64) i)) some (every_counted (λ i. on_chain d (d.track i % 64) i) d.count (total ∙ e)))))
       (cases_Bool (every_record d (λ i. on_chain d (d.track i % 64) i)))

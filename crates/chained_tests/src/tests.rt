@@ -193,6 +193,6 @@ fn reads_and_writes(rt: HostRuntime) -> Result<(), Fail> {
     let Ok(data) = pack.read(track, 7) else {
         return Err(Fail::new("no data"));
     };
-    assert!(rt; data == &[7; 256]);
+    assert!(rt; data == [7u8; 256].as_slice());
     Ok(())
 }

@@ -8,9 +8,9 @@ module _ (test : ℕ → Bool) where
   unfolding every_below
   every_none = refl
 
-  pub every-step : (n : ℕ) → every_below test (n + 1) ≡ (every_below test n && test n)
+  pub every_step : (n : ℕ) → every_below test (n + 1) ≡ (every_below test n && test n)
   unfolding every_below
-  every-step n = ap (every_below test) (add-one n)
+  every_step n = ap (every_below test) (add-one n)
 
   pub every_more : (n : ℕ) → every_below test n ≡ true → test n ≡ true → every_below test (n + 1) ≡ true
   unfolding every_below

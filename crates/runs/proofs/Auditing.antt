@@ -5,7 +5,7 @@ use Rattle.std.proofs.lemmas.Bool.{cases_Bool, and_from}
 use Rattle.storage.specs.Memory.{Verdict}
 use Rattle.drive.specs.Disk.{is_good}
 use Rattle.drive.specs.declared.search.NoRecord.{NoRecord}
-use Rattle.card.specs.Acts.{World, Query, device_address, head-count, storing, ids_of, condition_of, data_of, Sent, to_word, to_sector, Executed, Act, done, ask, send, ends, put, looked, executed, sent, then}
+use Rattle.card.specs.Acts.{World, Query, device_address, head_count, storing, ids_of, condition_of, data_of, Sent, to_word, to_sector, Executed, Act, done, ask, send, ends, put, looked, executed, sent, then}
 use Rattle.card.specs.Blocks.{even, chaining, key, modifier, head, count, data_address, operation_of, lawful, lawful_status, left, sector_now}
 use Rattle.card.specs.Calls.{Turn, turn, is_busy, command_of, meets_busy, known, at_position, with_residual}
 use Rattle.runs.specs.Laws.{RunAudit}
@@ -62,7 +62,7 @@ module _ (L : Query → Type 0) (dev : L device_address) (w : World) where
   quiet_move c b = does_cond L [] [] w c.ready _ _ (λ _. quiet_landed c b (destination c.position b (operation_of (modifier b)))) (λ _. quiet_told _)
 
   -- the check of a block
-  module _ (heads : L head-count) (c : Card) (b : Block) where
+  module _ (heads : L head_count) (c : Card) (b : Block) where
     of : Purpose → Executed
     of p = record { purpose = p; block = b; position = c.position }
 
@@ -71,7 +71,7 @@ module _ (L : Query → Type 0) (dev : L device_address) (w : World) where
     does_executes p s = does_execute L [] [] w _ _ (does_done L _ w)
 
     checks_head : (o : Operation) → Does L (cond (head_fits w.disk.heads o b) (of ForOperation ∷ []) []) [] (checked_head c b o) w
-    checks_head Seek = does_ask L _ [] w head-count _ heads
+    checks_head Seek = does_ask L _ [] w head_count _ heads
         (pick_executes L (of ForOperation ∷ []) [] w (ltb (head b) w.disk.heads) _ _ (λ _. does_executes ForOperation (Moving b)) (λ _. quiet_told _))
     checks_head Recalibrate = does_executes ForOperation (Moving b)
     checks_head ReadData = does_executes ForOperation (Sector b 0)
@@ -285,7 +285,7 @@ does_command c w first second parity =
 
     taken : (k : Option Command) → Does L [] [] (known c k second) w
     taken None = does_done L _ w
-    taken (Some ReadDeviceId) = does_ask L [] [] w head-count _ tt (does_done L _ w)
+    taken (Some ReadDeviceId) = does_ask L [] [] w head_count _ tt (does_done L _ w)
     taken (Some Prepare) = does_done L _ w
     taken (Some DeviceReset) = does_done L _ w
     taken (Some Start) = does_done L _ w
@@ -330,9 +330,9 @@ module _ (c : Card) (w : World) (x : Call) (xs : List Call) where
       looked-then (call c x) (λ t. then (run t.card xs) (λ r. done record { card = r.card; answers = t.answer ∷ r.answers })) w
       ∙ ap (λ (l : List Query). looked (call c x) w ++ l) (looked-then (run next_card xs) (λ r. done record { card = r.card; answers = (ends (call c x) w).result.answer ∷ r.answers }) next_world ∙ append-nil _)
 
-  run-executes : executed (run c (x ∷ xs)) w ≡ executed (call c x) w ++ executed (run next_card xs) next_world
+  run_executes : executed (run c (x ∷ xs)) w ≡ executed (call c x) w ++ executed (run next_card xs) next_world
   unfolding run executed
-  run-executes =
+  run_executes =
       executed-then (call c x) (λ t. then (run t.card xs) (λ r. done record { card = r.card; answers = t.answer ∷ r.answers })) w
       ∙ ap (λ (l : List Executed). executed (call c x) w ++ l) (executed-then (run next_card xs) (λ r. done record { card = r.card; answers = (ends (call c x) w).result.answer ∷ r.answers }) next_world ∙ append-nil _)
 
@@ -352,6 +352,6 @@ run_audit c w (x ∷ xs) =
     record {
       each = (audited m, rest.each);
       looks = run_looks c w x xs ∙ ap (λ (l : List Query). looks_at m ++ l) rest.looks;
-      executes = run-executes c w x xs ∙ ap₂ (λ (k l : List Executed). k ++ l) (audited m).executes rest.executes;
+      executes = run_executes c w x xs ∙ ap₂ (λ (k l : List Executed). k ++ l) (audited m).executes rest.executes;
       sends = run_sends c w x xs ∙ ap₂ (λ (k l : List Sent). k ++ l) (audited m).sends rest.sends;
     }

@@ -67,8 +67,8 @@ StateOk (Status b) p E = (q : Position) × Has E (block_at ForStatus b q)
 same_track_lem : (t : Track) → same_track t t ≡ true
 same_track_lem t = and_from (eqb t.cylinder t.cylinder) (eqb t.head t.head) (eq-eqb t.cylinder t.cylinder refl) (eq-eqb t.head t.head refl)
 
-word-named : (b : Block) (a i : ℕ) → data_address b ≤ a → a + 2 * i < data_address b + count b → names_word b (word_place (a + 2 * i)) ≡ true
-word-named b a i low high =
+word_named : (b : Block) (a i : ℕ) → data_address b ≤ a → a + 2 * i < data_address b + count b → names_word b (word_place (a + 2 * i)) ≡ true
+word_named b a i low high =
     and_from (leb (data_address b) (a + 2 * i)) (ltb (a + 2 * i) (data_address b + count b)) (le-leb (data_address b) (a + 2 * i) (omega arith)) (lt-ltb (a + 2 * i) (data_address b + count b) high)
 
 module _ (w₀ : World) (calls : List Call) where
@@ -114,7 +114,7 @@ module _ (w₀ : World) (calls : List Call) where
     word_covered op i more =
         inr (has_some (names w₀.disk (word_place (sector_address b n + 2 * i))) E (block_at ForOperation b c.position) has
         (ap (λ (o : Option Operation). names_by o w₀.disk (block_at ForOperation b c.position) (word_place (sector_address b n + 2 * i))) op
-        ∙ word-named b (sector_address b n) i (omega arith) (omega arith)))
+        ∙ word_named b (sector_address b n) i (omega arith) (omega arith)))
 
     data_covered : operation_of (modifier b) ≡ Some WriteData → (p : ℕ) → found_at p (searched (argument b n) (ids w₀.disk (under_heads c.position))) ≡ true → Covered E (data_place (under_heads c.position) p)
     unfolding Covered
@@ -204,7 +204,7 @@ module _ (w₀ : World) (calls : List Call) where
         safe_then Covered TurnOk E (store_words words (data_address b) (key b) c.residual) (λ m. status_sent c b m.stopped) w
         (safe_store Covered w₀ (λ m w' E'. Safe Covered TurnOk E' (status_sent c b m.stopped) w') E words w (data_address b) (key b) c.residual kept
         (λ i h. inr (has_some (names w₀.disk (word_place (data_address b + 2 * i))) E (block_at ForStatus b q) has
-        (word-named b (data_address b) i (omega arith) (few i h))))
+        (word_named b (data_address b) i (omega arith) (few i h))))
         (λ m w' kept'. sent' w' kept' m.stopped))
       where
         words : List ℕ

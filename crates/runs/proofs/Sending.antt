@@ -9,7 +9,7 @@ use Rattle.drive.specs.declared.geometry.Track.{Track}
 use Rattle.drive.specs.declared.sector.Condition.{Condition}
 use Rattle.drive.specs.declared.sector.Condition.TheVariants.{Good}
 use Rattle.drive.specs.declared.sector.IdField.{IdField}
-use Rattle.card.specs.Acts.{World, Query, device_address, head-count, word_at, reading, storing, ids_of, condition_of, data_of, Reply, Sent, to_word, to_sector, Act, done, ask, send, execute, answer, bytes_of, padded, put, ends, looked, sent}
+use Rattle.card.specs.Acts.{World, Query, device_address, head_count, word_at, reading, storing, ids_of, condition_of, data_of, Reply, Sent, to_word, to_sector, Act, done, ask, send, execute, answer, bytes_of, padded, put, ends, looked, sent}
 use Rattle.runs.specs.Laws.{LastSent, AlikeWhere}
 use Rattle.runs.specs.Places.{Place, word_place, data_place, a_word, a_field, content_of, holds, goes_to, some_to, none_to, Agree}
 
@@ -86,8 +86,8 @@ pick_bytes false new s = refl
 put-alike : (q : Query) (s : Sent) (w u : World) → answer q w ≡ answer q u → answer q (put s w) ≡ answer q (put s u)
 put-alike device_address (to_word a x) w u e = e
 put-alike device_address (to_sector t p ws) w u e = e
-put-alike head-count (to_word a x) w u e = e
-put-alike head-count (to_sector t p ws) w u e = e
+put-alike head_count (to_word a x) w u e = e
+put-alike head_count (to_sector t p ws) w u e = e
 put-alike (word_at b) (to_word a x) w u e = ap (λ (y : ℕ). cond (eqb b a) x y) e
 put-alike (word_at b) (to_sector t p ws) w u e = e
 put-alike (reading b k) (to_word a x) w u e = e

@@ -24,7 +24,7 @@ use Rattle.drive.specs.Disk.{is_good}
 use Rattle.drive.specs.Search.{ids, searched}
 use Rattle.drive.specs.declared.geometry.Track.{Track}
 use Rattle.drive.specs.declared.search.NoRecord.{NoRecord}
-use Rattle.card.specs.Acts.{World, Query, device_address, head-count, word_at, reading, storing, ids_of, condition_of, data_of, Sent, to_word, to_sector, Executed, ends, looked, sent, executed}
+use Rattle.card.specs.Acts.{World, Query, device_address, head_count, word_at, reading, storing, ids_of, condition_of, data_of, Sent, to_word, to_sector, Executed, ends, looked, sent, executed}
 use Rattle.card.specs.Blocks.{even, key, modifier, head, count, data_address, operation_of, lawful, lawful_status, argument}
 use Rattle.card.specs.Calls.{new_card}
 use Rattle.card.specs.Rules.{call}
@@ -229,7 +229,7 @@ OfSector (Status b) So = ⊥
 
 abbrev pub LooksIn : State → Call → Card → World → Query → Type 0
 LooksIn s x c w device_address = Unit {0}
-LooksIn s x c w head-count = Unit {0}
+LooksIn s x c w head_count = Unit {0}
 LooksIn s x c w (reading a k) = TriesRead s c w k a
 -- a word is read where its read is tried and allowed
 LooksIn s x c w (word_at a) = (k : ℕ) × TriesRead s c w k a × (can_read w k a ≡ true)

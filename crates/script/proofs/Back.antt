@@ -13,7 +13,7 @@ use Rattle.script.specs.Printings.{sayable, call_verb, call_words, call_line}
 use Rattle.script.specs.Readings.{command_of, store_of, call_of, line_of}
 use Rattle.script.specs.Verbs.{call_text, verbs, verb_among, verb_of}
 use Rattle.script.specs.Words.{words, lines, pieces, filled, unreturned}
-use Rattle.script.proofs.Clean.{AllFree, AllSome, absent, free_from, free_digits, words-spaced, free_spaced, unreturned_free}
+use Rattle.script.proofs.Clean.{AllFree, AllSome, absent, free_from, free_digits, words_spaced, free_spaced, unreturned_free}
 use Rattle.script.proofs.Cutting.{Free, lines_cut}
 use Rattle.script.proofs.Digits.{address_short}
 use Rattle.script.proofs.Hexes.{hex_digits, hex_says, hex_some}
@@ -107,7 +107,7 @@ line_without : (b : ℕ) → Outside b → (c : Call) → AllFree b (call_text (
 line_without b o c = (free_from b (call_text (call_verb c)) (o.verb (call_verb c)), words_without b o c)
 
 line_words : (c : Call) → words (call_line c) ≡ call_text (call_verb c) ∷ call_words c
-line_words c = words-spaced (call_text (call_verb c)) (call_words c) (line_without 32 space_outside c) (verb_some (call_verb c), words_some c)
+line_words c = words_spaced (call_text (call_verb c)) (call_words c) (line_without 32 space_outside c) (verb_some (call_verb c), words_some c)
 
 pub read_back : ReadBack
 read_back c q h = ap line_of (line_words c) ∙ line_of_lem (call_verb c) (call_words c) ∙ ap (option_map Calls) (call_says c q h)

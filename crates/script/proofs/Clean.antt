@@ -40,9 +40,9 @@ abbrev pub AllSome : List (List ℕ) → Type 0
 AllSome [] = Unit {0}
 AllSome (w ∷ ws) = (0 < length w) × AllSome ws
 
-pub words-spaced : (w : List ℕ) (vs : List (List ℕ)) → AllFree 32 (w ∷ vs) → AllSome (w ∷ vs) → words (spaced w vs) ≡ w ∷ vs
-words-spaced w [] free some = words_free w free.0 some.0
-words-spaced w (v ∷ vs) free some = words_cut w (spaced v vs) free.0 some.0 ∙ ap (λ ws. w ∷ ws) (words-spaced v vs free.1 some.1)
+pub words_spaced : (w : List ℕ) (vs : List (List ℕ)) → AllFree 32 (w ∷ vs) → AllSome (w ∷ vs) → words (spaced w vs) ≡ w ∷ vs
+words_spaced w [] free some = words_free w free.0 some.0
+words_spaced w (v ∷ vs) free some = words_cut w (spaced v vs) free.0 some.0 ∙ ap (λ ws. w ∷ ws) (words_spaced v vs free.1 some.1)
 
 pub free_spaced : (c : ℕ) (w : List ℕ) (vs : List (List ℕ)) → (32 ≡ c → ⊥) → AllFree c (w ∷ vs) → Free c (spaced w vs)
 free_spaced c w [] h free = free.0

@@ -7,7 +7,7 @@ use Rattle.card.specs.Steps.{checked, failed_turn}
 use Rattle.card.specs.Words.{well}
 use Rattle.answers.specs.declared.answer.Exception.TheVariants.{Storage}
 use Rattle.card.specs.declared.registers.Card.{Card}
-use Rattle.card.proofs.Stepping.{fetch-well, fetch_stopped}
+use Rattle.card.proofs.Stepping.{fetch_well, fetch_stopped}
 use Rattle.card.proofs.registers.Card.fetch.Goals as goal
 
 pub returns-in-Ok : goal.returns-in-Ok
@@ -18,7 +18,7 @@ returns-in-Ok g c =
     let words = c.fetch_words-fetched.new.words in
     let came = c.in-Ok.ensures.moved c.args.device (g.D.Drive.meaning c.args.drive.now) in
     let whole = came ∙ ap (λ l. ended record { words = l; moved = well c.fetch_words-fetched.new.residual } w) (take_all 8 words (omega arith)) in
-    fetch-well c.args.purpose c.args.self.now a w (eq-eqb (a % 2) 0 c.if-address-ne0.false) words c.fetch_words-fetched.new.residual whole
+    fetch_well c.args.purpose c.args.self.now a w (eq-eqb (a % 2) 0 c.if-address-ne0.false) words c.fetch_words-fetched.new.residual whole
     ∙ ap (λ (k : Card). ends (checked c.args.purpose k record { address = a; words = words }) w) (sym c.keep_residual.ensures)
     ∙ c.check.ensures m
 

@@ -1,7 +1,7 @@
 use Rattle.std.proofs.Common.{◌&&◌, sym, ◌∙◌, ap₂}
 use Rattle.std.proofs.lemmas.Bool.{cond-false}
 use Rattle.pack.specs.Plain.{zero_clear, conditions_clear}
-use Rattle.pack.proofs.Below.{every_none, every-step, every_more, every_fails}
+use Rattle.pack.proofs.Below.{every_none, every_step, every_more, every_fails}
 use Rattle.pack.proofs.plain_pack.open.places_fault.Goals as goal
 
 pub loop-place-init : goal.loop-place-init
@@ -17,5 +17,5 @@ loop-place-preserved c =
     let b = c.args.bytes.now in
     let n = c.loop-place.place in (
       every_more (zero_clear b) n c.loop-place.invariant.0 (sym c.if-not-zero_clear.ensures),
-      ap₂ (λ x y. x && y) c.loop-place.invariant.1 c.conditions_clear-conditions.ensures ∙ sym (every-step (conditions_clear b) n),
+      ap₂ (λ x y. x && y) c.loop-place.invariant.1 c.conditions_clear-conditions.ensures ∙ sym (every_step (conditions_clear b) n),
     )

@@ -43,6 +43,8 @@ BY_HAND = {
     # a definition that would have the name of a field
     "writeSector": "write_sector_lem",
     "idWord": "waiting_words",
+    # a definition that has the name of a tactic
+    "first_of": "first_from",
 }
 
 # Names of the library that a lemma's name can join.
@@ -139,7 +141,11 @@ def clauses(text):
 
 
 def respell(text, table):
-    return TOKEN.sub(lambda m: table.get(m.group(0), m.group(0)), text)
+    def turned(m):
+        tactic = m.group(0) == "first_of" and text.startswith(" (Prim.", m.end())
+        return m.group(0) if tactic else table.get(m.group(0), m.group(0))
+
+    return TOKEN.sub(turned, text)
 
 
 def main():

@@ -2,11 +2,11 @@
 --   command_number, command_word, command_code   of a refused command: its number, 1 to 4, its word and its condition code
 --   exception_number, exception_word   of an exception: its number, 11 to 19, and its word
 --   layer_of, layer_word   where an exception comes from: the channel, the storage or the drive
---   told_of            what else it tells: the address of the word that failed, the sector, or zero
---   status_byte        the high byte of the interrupt ID word
---   reasons           the bits that it adds to status word 1; those of no record found say whether a spoiled ID was passed
+--   told_of       what else it tells: the address of the word that failed, the sector, or zero
+--   status_byte   the high byte of the interrupt ID word
+--   reasons       the bits that it adds to status word 1; those of no record found say whether a spoiled ID was passed
 --   answer_number, answer_word   of any answer: the number and the word of its refusal or exception; zero and no word where the call went well
---   code_of            the condition code, where an answer has one
+--   code_of       the condition code, where an answer has one
 use Rattle.std.specs.Prelude.{ℕ, Bool, cond, List, [], Some, None, codes, Option}
 use Rattle.basics.specs.declared.fault.Fault.{Fault}
 use Rattle.basics.specs.declared.fault.Fault.TheVariants.{StorageDataCheck, InvalidAddress, ProtectCheck}

@@ -1,8 +1,8 @@
 -- A table of marks, by the list of marks that it holds, the oldest first.
---   has       whether a list of marks has a mark, by the marks' own test
---   without   the list with a mark taken out
---   entered   the marks after one was to be entered: as before if it is there or no entry is free, else one more, the newest
---   entering  what the table answers to that
+--   has        whether a list of marks has a mark, by the marks' own test
+--   without    the list with a mark taken out
+--   entered    the marks after one was to be entered: as before if it is there or no entry is free, else one more, the newest
+--   entering   what the table answers to that
 use Rattle.std.specs.Prelude.{ℕ, Bool, false, cond, not, ◌||◌, List, [], ◌∷◌, ◌++◌, length, Ok, Err, filter, Result, nat_lt}
 use Rattle.basics.specs.declared.refusal.Refusal.{Refusal}
 use Rattle.basics.specs.declared.refusal.Refusal.TheVariants.{MarksFull}

@@ -1,6 +1,6 @@
 -- The number and the word of each refusal and each fault.
 --   refusal_number, refusal_word   of what a pack, a storage or a layer refuses: 21, 22, 24 to 26, 28, 29
---   fault_number, fault_word       of an access to storage that is not allowed: 12 to 14
+--   fault_number, fault_word   of an access to storage that is not allowed: 12 to 14
 use Rattle.std.specs.Prelude.{ℕ, List, codes}
 use Rattle.basics.specs.declared.fault.Fault.{Fault}
 use Rattle.basics.specs.declared.fault.Fault.TheVariants.{StorageDataCheck, InvalidAddress, ProtectCheck}

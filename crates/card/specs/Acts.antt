@@ -1,19 +1,19 @@
 -- The language in which the rules are written: what the card asks of the world, and what it sends to it, in order.
---   World      what a run is over: the device address, the drive and the storage, by their meanings
---   Query      what can be looked at; Reply says what comes back
---   Sent       what can be sent: a word to an address, words to the data of a sector
+--   World              what a run is over: the device address, the drive and the storage, by their meanings
+--   Query              what can be looked at; Reply says what comes back
+--   Sent               what can be sent: a word to an address, words to the data of a sector
 --   spares_storage, spares_drive   whether none of the things sent goes to the storage, or to the drive
---   Act        a rule: it is done, or asks and goes on, or sends and goes on, or executes a control block and goes on
---   Executed   a control block executed: for which command, and where the heads were
---   answer     what a world replies to a query
+--   Act                a rule: it is done, or asks and goes on, or sends and goes on, or executes a control block and goes on
+--   Executed           a control block executed: for which command, and where the heads were
+--   answer             what a world replies to a query
 --   bytes_of, padded   the bytes of words, high byte first; a short sector padded with zeros
---   put        a world after something was sent
---   Ended, ended   a result with the world after it
---   ends       what an act comes to in a world, and the world after it
---   looked     the queries that it asks there, in order
---   sent       what it sends there, in order
---   executed   the control blocks that it executes there, in order
---   then       one act after another
+--   put                a world after something was sent
+--   Ended, ended       a result with the world after it
+--   ends               what an act comes to in a world, and the world after it
+--   looked             the queries that it asks there, in order
+--   sent               what it sends there, in order
+--   executed           the control blocks that it executes there, in order
+--   then               one act after another
 use Rattle.std.specs.Prelude.{ℕ, ◌/◌, ◌%◌, Bool, true, false, List, [], ◌∷◌, ◌++◌, take, replicate}
 use Rattle.storage.specs.Memory.{Verdict, Memory, with_word}
 use Rattle.drive.specs.Disk.{Disk, replaced}

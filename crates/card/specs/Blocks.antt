@@ -1,16 +1,16 @@
 -- The device control block, by its words, and what makes it lawful.
---   word_of                          one of its eight words
---   chaining, input, key, modifier  the control word: bits 0, 2, 5 to 7, 8 to 15
---   downward, difference            the seek control word: bit 4, bits 7 to 15
---   flag, cylinder, head, sector    the search argument: words 2 low, 3, 4 high, 4 low
---   chain, count, data_address       words 5, 6, 7
---   control_clear, seek_clear         the bits of these words that have to be zero
---   operation_of                     the operation by the modifier
---   input_fits, fits                 the input flag goes with the operation; what the operation itself asks of its block
---   lawful                          whether a block of Start passes the check, the head of a seek aside
---   lawful_status                    whether a block of Start Cycle Steal Status passes it
---   sector_now, argument             what is searched for when some sectors are done
---   left                            how many bytes are left when some sectors are done
+--   word_of            one of its eight words
+--   chaining, input, key, modifier   the control word: bits 0, 2, 5 to 7, 8 to 15
+--   downward, difference   the seek control word: bit 4, bits 7 to 15
+--   flag, cylinder, head, sector   the search argument: words 2 low, 3, 4 high, 4 low
+--   chain, count, data_address   words 5, 6, 7
+--   control_clear, seek_clear   the bits of these words that have to be zero
+--   operation_of       the operation by the modifier
+--   input_fits, fits   the input flag goes with the operation; what the operation itself asks of its block
+--   lawful             whether a block of Start passes the check, the head of a seek aside
+--   lawful_status      whether a block of Start Cycle Steal Status passes it
+--   sector_now, argument   what is searched for when some sectors are done
+--   left               how many bytes are left when some sectors are done
 use Rattle.std.specs.Prelude.{ℕ, ◌+◌, ◌-◌, ◌*◌, ◌/◌, ◌%◌, Bool, true, cond, not, ◌&&◌, ◌||◌, Some, None, Option, ◌==◌, bit_and, nat_le, slice_index}
 use Rattle.drive.specs.declared.sector.SectorId.{SectorId}
 use Rattle.card.specs.declared.control_block.Block.{Block}

@@ -1,10 +1,10 @@
 -- What the calls answer and leave, the step aside.
---   Turn                a call's turn: the card after it, and its answer
---   new_card             a card just started
---   is_busy              from an accepted Start or Start Cycle Steal Status, or a waiting attention, until service, reset or halt
+--   Turn        a call's turn: the card after it, and its answer
+--   new_card    a card just started
+--   is_busy     from an accepted Start or Start Cycle Steal Status, or a waiting attention, until service, reset or halt
 --   in_state, with_waiting and their like   the card with one register changed
---   interrupt           an interrupt that waits: its condition code and its ID word
---   reset               what Device Reset and Halt leave
+--   interrupt   an interrupt that waits: its condition code and its ID word
+--   reset       what Device Reset and Halt leave
 --   command, halt, store, readiness, service   the rules of these calls
 use Rattle.std.specs.Prelude.{ℕ, ◌+◌, ◌*◌, ◌/◌, ◌%◌, Bool, true, false, cond, not, ◌&&◌, ◌||◌, is_some, Some, None, Ok, Err, Option, ◌==◌, bit_and}
 use Rattle.card.specs.Acts.{Act, done, ask, send, device_address, head_count, storing, to_word}

@@ -2,7 +2,7 @@
 --   failed, finished    how a step ends a chain by an exception, and how it ends a block well
 --   fetch               the fetch of a block and its check
 --   destination, move   where a seek lands; the step that moves the heads
---   sector_step          one sector of a data operation
+--   sector_step         one sector of a data operation
 --   status_words, send_status   the status words, and the step that sends them
 --   step                the step, by the card's state
 use Rattle.std.specs.Prelude.{ℕ, ◌+◌, ◌-◌, ◌*◌, ◌/◌, min, Bool, true, false, cond, List, [], ◌∷◌, take, Some, None, Ok, Err, Option, Result, ◌==◌, bit_or, nat_le, nat_lt}

@@ -1,11 +1,11 @@
 -- How words move between the card and storage: in order, at rising addresses that never wrap, until one is not allowed.
---   Moved        how a transfer ended: the residual address, and the word that was not allowed, if any
---   Fetched      the same, with the words
+--   Moved         how a transfer ended: the residual address, and the word that was not allowed, if any
+--   Fetched       the same, with the words
 --   well, stopped_at, residual_of   the two ways to end, and the residual address of a word
 --   fetch_words   words read with a key, one after the other
 --   store_words   words stored with a key, one after the other
 --   words_of      the words of a list of bytes
---   FetchEnds    how a fetch came out: with all its words, or stopped at one
+--   FetchEnds     how a fetch came out: with all its words, or stopped at one
 use Rattle.std.specs.Prelude.{◌≡◌, ℕ, zero, suc, ◌+◌, ◌*◌, ◌%◌, List, [], ◌∷◌, Some, None, Ok, Err, Option, Result}
 use Rattle.basics.specs.declared.fault.Fault.{Fault}
 use Rattle.card.specs.declared.transfer.Stopped.{Stopped}

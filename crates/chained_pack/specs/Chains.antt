@@ -1,5 +1,5 @@
 -- The chains of a pack: which records lie on which chain, and which record has a place.
---   Directory     the count of the records in use (1 to count), the first index of each chain, and each record's next index, track and place
+--   Directory      the count of the records in use (1 to count), the first index of each chain, and each record's next index, track and place
 --   chain_from     the records of a chain in order, from an index on, so many at most; zero ends it
 --   chain_of       the records of a chain: without a loop it has no more than are in use
 --   end_from       the index that a chain comes to after so many records, zero past its end

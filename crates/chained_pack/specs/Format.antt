@@ -3,8 +3,8 @@
 --   heads_of       the heads, byte 4 of the header
 --   start_of       where a record begins
 --   head_of        the front of a record: next index (2), track (2), place, ID condition, data condition
---   directory     the count of records in use (bytes 6 and 7), the 64 first indexes (from byte 8), and what each record says of its chain
---   HasUsed       there is room for the records in use
+--   directory      the count of records in use (bytes 6 and 7), the 64 first indexes (from byte 8), and what each record says of its chain
+--   HasUsed        there is room for the records in use
 --   sector_at      what a record that begins at an index holds: behind the front the ID (5) and the data (256)
 --   record_for     the record of a place on the drive; its track is cylinder × heads + head
 --   chained_disk   what a chained pack means: a place with no record is blank

@@ -1,5 +1,5 @@
 -- What makes bytes a chained pack, and what is wrong with those that are none.
---   room           how many records of 268 bytes there is room for behind the header
+--   room            how many records of 268 bytes there is room for behind the header
 --   length_clear    the length is that of a header and at most 65,535 whole records, no fewer than are in use
 --   header_clear    the text 4962, two or three heads, the zero
 --   records_clear   of each record in use: its track and place are on the drive, and both conditions are 0 or 1

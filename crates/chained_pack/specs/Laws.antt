@@ -1,8 +1,8 @@
 -- What holds of the records of every chained pack that opens, and what a loop is.
---   InUse     a record in use
---   Apart     a list that has no record twice
---   Orderly   each record in use lies on the chain of its track and on no other, once, and is found there by its own track and place
---   Loopless  a chain whose indexes are of records in use comes to its end exactly if it passes no record twice
+--   InUse      a record in use
+--   Apart      a list that has no record twice
+--   Orderly    each record in use lies on the chain of its track and on no other, once, and is found there by its own track and place
+--   Loopless   a chain whose indexes are of records in use comes to its end exactly if it passes no record twice
 use Rattle.std.specs.Prelude.{◌≡◌, ℕ, ◌+◌, ◌%◌, ◌<◌, ◌≤◌, true, false, List, [], ◌∷◌, Some, ◌==◌, nat_eq}
 use Rattle.drive.specs.Search.{some_of}
 use Rattle.chained_pack.specs.Chains.{Directory, chain_from, chain_of, end_from, on_chain, record_of, found_on}

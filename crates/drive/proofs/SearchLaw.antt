@@ -2,7 +2,7 @@
 use Rattle.std.proofs.Common.{◌≡◌, ℕ, zero, suc, ◌+◌, ◌<◌, Bool, true, false, cond, ◌&&◌, eqb, List, [], ◌∷◌, length, get_or, Some, None, Option, Result, sym, refl, ap, ◌∙◌, subst, ap₂, ⊎_elim, not-suc-le-zero, arith, MatchResult}
 use Rattle.std.proofs.lemmas.Bool.{and_parts, and_from, or_cases, or_left, or_right, eqb-true, eq-eqb, both_ways, false≢true, not-true, not_from_false}
 use Rattle.drive.specs.Disk.{Disk, is_good, same_id}
-use Rattle.drive.specs.Search.{ids, matches, is_spoiled, first_of, some_of, told, searched, Holds, Found, Missing}
+use Rattle.drive.specs.Search.{ids, matches, is_spoiled, first_from, some_of, told, searched, Holds, Found, Missing}
 use Rattle.drive.specs.declared.geometry.Track.{Track}
 use Rattle.drive.specs.declared.search.NoRecord.{NoRecord}
 use Rattle.drive.specs.declared.sector.IdField.{IdField}
@@ -22,10 +22,10 @@ module _ {X : Type 0} (test : X → Bool) where
   FirstOrNone n xs (Some p) = First n xs p
   FirstOrNone n xs None = (k : ℕ) (z : X) → k < length xs → test (get_or xs k z) ≡ false
 
-  pub first_law : (n : ℕ) (xs : List X) → FirstOrNone n xs (first_of test n xs)
-  unfolding first_of FirstOrNone
+  pub first_law : (n : ℕ) (xs : List X) → FirstOrNone n xs (first_from test n xs)
+  unfolding first_from FirstOrNone
   first_law n [] = λ k z below. absurd (not-suc-le-zero below)
-  first_law n (x ∷ xs) = go (test x) refl (first_of test (n + 1) xs) (first_law (n + 1) xs) where
+  first_law n (x ∷ xs) = go (test x) refl (first_from test (n + 1) xs) (first_law (n + 1) xs) where
     later : (k : ℕ) (z : X) → test x ≡ false → ((j : ℕ) → suc j ≡ k → test (get_or xs j z) ≡ false) → test (get_or (x ∷ xs) k z) ≡ false
     later zero z here rest = here
     later (suc k) z here rest = rest k refl
@@ -99,7 +99,7 @@ module _ (d : Disk) (t : Track) (argument : SectorId) where
 
   pub search_law : MatchResult (searched argument (ids d t)) (λ p. Found d t argument p) (λ e. Missing d t argument e.passed_spoiled)
   unfolding FirstOrNone
-  search_law = go (first_of (matches argument) 0 (ids d t)) (first_law (matches argument) 0 (ids d t)) where
+  search_law = go (first_from (matches argument) 0 (ids d t)) (first_law (matches argument) 0 (ids d t)) where
     go : (o : Option ℕ) → FirstOrNone (matches argument) 0 (ids d t) o → MatchResult (told (some_of is_spoiled (ids d t)) o) (λ p. Found d t argument p) (λ e. Missing d t argument e.passed_spoiled)
     go (Some p) f =
         let n = length_ids d t in

@@ -4,7 +4,7 @@ use Rattle.std.proofs.lemmas.List.FromFn.{length-map-range_with_len, get_or-map-
 use Rattle.std.proofs.lemmas.List.{at_drop_more, at_drop_all}
 use Rattle.std.proofs.lemmas.Bool.{cond-true, cond-false, and_left, and_right, and_from}
 use Rattle.drive.specs.Disk.{Disk, is_good, same_id}
-use Rattle.drive.specs.Search.{ids, matches, is_spoiled, first_of, some_of, told, searched}
+use Rattle.drive.specs.Search.{ids, matches, is_spoiled, first_from, some_of, told, searched}
 use Rattle.drive.specs.declared.geometry.Track.{Track}
 use Rattle.drive.specs.declared.sector.IdField.{IdField}
 use Rattle.drive.specs.declared.sector.SectorId.{SectorId}
@@ -28,7 +28,7 @@ or_none false = refl
 
 -- the places below i were passed, and `passed` says whether one of them was spoiled
 pub record Searching (argument : SectorId) (fields : List IdField) (i : ℕ) (passed : Bool) : Type 0 where
-  pub left : first_of (matches argument) i (drop i fields) ≡ first_of (matches argument) 0 fields
+  pub left : first_from (matches argument) i (drop i fields) ≡ first_from (matches argument) 0 fields
   pub seen : (passed || some_of is_spoiled (drop i fields)) ≡ some_of is_spoiled fields
 
 module _ (argument : SectorId) (fields : List IdField) where
@@ -37,11 +37,11 @@ module _ (argument : SectorId) (fields : List IdField) where
 
   module _ (i : ℕ) (passed : Bool) (s : Searching argument fields i passed) where
     module _ (f : IdField) (within : i < length fields) (here : get_or fields i f ≡ f) where
-      first_here : first_of (matches argument) i (drop i fields) ≡ cond (matches argument f) (Some i) (first_of (matches argument) (i + 1) (drop (i + 1) fields))
-      unfolding first_of
+      first_here : first_from (matches argument) i (drop i fields) ≡ cond (matches argument f) (Some i) (first_from (matches argument) (i + 1) (drop (i + 1) fields))
+      unfolding first_from
       first_here =
-          at_drop_more (first_of (matches argument) i) fields i f within
-          ∙ ap (λ (x : IdField). cond (matches argument x) (Some i) (first_of (matches argument) (i + 1) (drop (i + 1) fields))) here
+          at_drop_more (first_from (matches argument) i) fields i f within
+          ∙ ap (λ (x : IdField). cond (matches argument x) (Some i) (first_from (matches argument) (i + 1) (drop (i + 1) fields))) here
 
       some_here : some_of is_spoiled (drop i fields) ≡ (is_spoiled f || some_of is_spoiled (drop (i + 1) fields))
       unfolding some_of
@@ -61,11 +61,11 @@ module _ (argument : SectorId) (fields : List IdField) where
       hits hit = ap (told (some_of is_spoiled fields)) (sym (first_here ∙ cond-true (matches argument f) _ _ hit) ∙ s.left)
 
     pub fails : length fields ≤ i → Err record { passed_spoiled = passed } ≡ searched argument fields
-    unfolding first_of some_of
+    unfolding first_from some_of
     fails past =
         let none : some_of is_spoiled (drop i fields) ≡ false = at_drop_all (some_of is_spoiled) fields i past in
         let same : passed ≡ some_of is_spoiled fields = sym (or_none passed) ∙ ap (λ (b : Bool). passed || b) (sym none) ∙ s.seen in
-        ap (λ (b : Bool). told b None) same ∙ ap (told (some_of is_spoiled fields)) (sym (at_drop_all (first_of (matches argument) i) fields i past) ∙ s.left)
+        ap (λ (b : Bool). told b None) same ∙ ap (told (some_of is_spoiled fields)) (sym (at_drop_all (first_from (matches argument) i) fields i past) ∙ s.left)
 
 -- the same at the track of a drive, by what was seen at place i
 module _ (d : Disk) (t : Track) (argument : SectorId) (i : ℕ) (passed : Bool) (s : Searching argument (ids d t) i passed) where

@@ -1,11 +1,11 @@
 -- The defect layer: a drive below, with marks that each spoil the ID or the data of a place.
 --   same_field, same_defect   tests on fields and defects
---   defect_of                the defect of a field of a place
---   spoils                  whether a list of marks spoils a field of a place
---   spoiled_if               a condition under a mark, or under none
---   with_defects             a sector whose fields are spoiled or not
---   defect_disk              what the layer means: a mark changes a condition and no byte
---   place_mark               what entering or lifting a mark answers: a mark goes on a place of the drive
+--   defect_of      the defect of a field of a place
+--   spoils         whether a list of marks spoils a field of a place
+--   spoiled_if     a condition under a mark, or under none
+--   with_defects   a sector whose fields are spoiled or not
+--   defect_disk    what the layer means: a mark changes a condition and no byte
+--   place_mark     what entering or lifting a mark answers: a mark goes on a place of the drive
 use Rattle.std.specs.Prelude.{ℕ, Bool, true, false, cond, ◌&&◌, List, Err, Result, ◌==◌}
 use Rattle.basics.specs.Marks.{has}
 use Rattle.basics.specs.declared.refusal.Refusal.{Refusal}

@@ -1,15 +1,15 @@
 -- What a drive means.
 --   is_good, same_id, same_track   tests on conditions, IDs and tracks
---   DataField, Sector           the data of a place with its condition; a place's ID and data
---   Disk                        the heads, and the sector at each place of each track
---   on_drive                     whether a place of a track is on a drive: cylinders 0 to 302, its heads, places 0 to 59
---   blank                       what is off the drive: ID and data spoiled, all zero
---   no_id, no_bytes               the ID and the data of what is blank
---   Lawful                      what every make of drive owes
---   accepts                     what a data call answers: data can be read and written exactly where the ID is good
---   Reads                       what an accepted read gives
---   with_data, replaced          a sector with new data, which are good; a drive with the data of one place replaced
---   written                     the drive after a write: the data of that place alone is replaced, and good
+--   DataField, Sector   the data of a place with its condition; a place's ID and data
+--   Disk                the heads, and the sector at each place of each track
+--   on_drive            whether a place of a track is on a drive: cylinders 0 to 302, its heads, places 0 to 59
+--   blank               what is off the drive: ID and data spoiled, all zero
+--   no_id, no_bytes     the ID and the data of what is blank
+--   Lawful              what every make of drive owes
+--   accepts             what a data call answers: data can be read and written exactly where the ID is good
+--   Reads               what an accepted read gives
+--   with_data, replaced   a sector with new data, which are good; a drive with the data of one place replaced
+--   written             the drive after a write: the data of that place alone is replaced, and good
 use Rattle.std.specs.Prelude.{◌≡◌, ℕ, ◌≤◌, Bool, true, false, cond, ◌&&◌, List, length, replicate, Ok, Err, Result, ◌==◌, nat_lt}
 use Rattle.basics.specs.declared.refusal.Refusal.{Refusal}
 use Rattle.basics.specs.declared.refusal.Refusal.TheVariants.{NoSuchPlace}

@@ -1,14 +1,14 @@
 -- The search along a track.
---   ids        the sixty IDs of a track with their conditions, in order from index
---   is_spoiled  a spoiled ID
---   matches    a good ID that equals the argument
---   first_of    the place of the first of a list that passes a test, counted from a number on
---   some_of     whether one of a list passes a test
---   told       what is answered: the place, or that there is none
---   searched   the first place that matches; where there is none, whether a spoiled ID was passed
---   Holds      a place's ID is good and equals the argument
---   Found      what a place found is: it holds the argument, and none before it does
---   Missing    what is known where none was found, with what is told of spoiled IDs
+--   ids          the sixty IDs of a track with their conditions, in order from index
+--   is_spoiled   a spoiled ID
+--   matches      a good ID that equals the argument
+--   first_from   the place of the first of a list that passes a test, counted from a number on
+--   some_of      whether one of a list passes a test
+--   told         what is answered: the place, or that there is none
+--   searched     the first place that matches; where there is none, whether a spoiled ID was passed
+--   Holds        a place's ID is good and equals the argument
+--   Found        what a place found is: it holds the argument, and none before it does
+--   Missing      what is known where none was found, with what is told of spoiled IDs
 use Rattle.std.specs.Prelude.{◌≡◌, ℕ, ◌+◌, ◌<◌, Bool, true, false, cond, not, ◌&&◌, ◌||◌, List, [], ◌∷◌, map, Some, None, Ok, Err, Decides, Option, Result}
 use Rattle.std.specs.List.{range_with_len}
 use Rattle.drive.specs.Disk.{Disk, is_good, same_id}
@@ -26,9 +26,9 @@ matches argument f = is_good f.condition && same_id f.id argument
 abbrev pub is_spoiled : IdField → Bool
 is_spoiled f = not (is_good f.condition)
 
-unfoldable pub first_of : {X : Type 0} → (X → Bool) → ℕ → List X → Option ℕ
-first_of test n [] = None
-first_of test n (x ∷ xs) = cond (test x) (Some n) (first_of test (n + 1) xs)
+unfoldable pub first_from : {X : Type 0} → (X → Bool) → ℕ → List X → Option ℕ
+first_from test n [] = None
+first_from test n (x ∷ xs) = cond (test x) (Some n) (first_from test (n + 1) xs)
 
 unfoldable pub some_of : {X : Type 0} → (X → Bool) → List X → Bool
 some_of test [] = false
@@ -39,7 +39,7 @@ told spoiled (Some p) = Ok p
 told spoiled None = Err record { passed_spoiled = spoiled }
 
 abbrev pub searched : SectorId → List IdField → Result ℕ NoRecord
-searched argument fields = told (some_of is_spoiled fields) (first_of (matches argument) 0 fields)
+searched argument fields = told (some_of is_spoiled fields) (first_from (matches argument) 0 fields)
 
 pub record Holds (d : Disk) (t : Track) (argument : SectorId) (p : ℕ) : Type 0 where
   pub good : is_good (d.sector t p).id.condition ≡ true

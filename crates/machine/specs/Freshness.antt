@@ -1,8 +1,8 @@
 -- Tracks made fresh, one and all.
 --   fresh_up_to   a drive with its first tracks made fresh, counted by cylinder, then by head
---   AllFresh    every place on the drive is that of a fresh track
---   FreshPack   a plain pack of a number of bytes with every track fresh
---   MadeFresh   a pack after one of its tracks was made fresh, off the drive none; a chained pack stays as it is
+--   AllFresh      every place on the drive is that of a fresh track
+--   FreshPack     a plain pack of a number of bytes with every track fresh
+--   MadeFresh     a pack after one of its tracks was made fresh, off the drive none; a chained pack stays as it is
 use Rattle.std.specs.Prelude.{◌≡◌, ℕ, zero, suc, ◌*◌, true, cond, Some, vec_items}
 use Rattle.std.proofs.Math.Seq.{paste}
 use Rattle.drive.specs.Disk.{Disk, on_drive}

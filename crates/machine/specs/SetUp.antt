@@ -1,12 +1,12 @@
 -- What set-up calls leave.
---   Begun                          a run that has just begun: a new card, with this device address
---   world_of                        what the run of a machine is over
---   HoldsPlain, HoldsKeyed         a storage of that make, with these bytes and keys
---   OpenedPlain, OpenedChained     a pack of that make, with these bytes
---   marking_word, lifting_word       what marking a word and lifting its mark answer
---   marking_place, lifting_place     the same of a field of a place
---   WithStorage                    a new run after a change of the storage: of the make below, and these marks over it
---   WithPack                       the same of the pack
+--   Begun         a run that has just begun: a new card, with this device address
+--   world_of      what the run of a machine is over
+--   HoldsPlain, HoldsKeyed   a storage of that make, with these bytes and keys
+--   OpenedPlain, OpenedChained   a pack of that make, with these bytes
+--   marking_word, lifting_word   what marking a word and lifting its mark answer
+--   marking_place, lifting_place   the same of a field of a place
+--   WithStorage   a new run after a change of the storage: of the make below, and these marks over it
+--   WithPack      the same of the pack
 use Rattle.std.specs.Prelude.{◌≡◌, ℕ, List, Ok, Result, Vec, nat_eq}
 use Rattle.std.specs.declared.alloc.Global.{Global}
 use Rattle.basics.specs.Marks.{entering}

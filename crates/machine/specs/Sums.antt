@@ -1,10 +1,10 @@
 -- The sums by which the data of a place and a whole drive are shown.
---   weighed         each byte of a list times its index, which is counted from a number on, summed
+--   weighed          each byte of a list times its index, which is counted from a number on, summed
 --   data_sum         the sum of the data of a place; none where the ID is spoiled
 --   condition_byte   how a condition is counted: 0 good, 1 spoiled
 --   place_bytes      what a drive tells of a place, as 264 bytes: both conditions, the ID, a zero, the data or zeros
---   summed          what a function gives at each number below a bound, summed
---   front           the eight bytes in front of the data
+--   summed           what a function gives at each number below a bound, summed
+--   front            the eight bytes in front of the data
 --   track_sum        the sums of a track's places, each times its number; some places come before the track
 --   places_sum       the same over the whole drive, modulo 2^32
 use Rattle.std.specs.Prelude.{ℕ, zero, suc, ◌+◌, ◌*◌, ◌/◌, ◌%◌, ◌^◌, cond, List, [], ◌∷◌, ◌++◌, Some, None, Option}

@@ -1,10 +1,10 @@
 -- A fresh track: good IDs with flag zero in the order of sixty, and good zero data.
---   order         the sectors of a fresh track by place
+--   order          the sectors of a fresh track by place
 --   order_rule     the rule of that order: 00, 30, 01, 31 and so on to 29, 59
 --   fresh_record   the bytes of a place of a fresh track
 --   fresh_track    the bytes of the whole track
 --   fresh_sector   what stands at a place of a fresh track
---   refreshed     a drive with one track made fresh
+--   refreshed      a drive with one track made fresh
 use Rattle.std.specs.Prelude.{ℕ, ◌+◌, ◌/◌, ◌%◌, cond, ◌&&◌, List, [], ◌∷◌, ◌++◌, replicate, ◌==◌, nat_lt}
 use Rattle.std.specs.List.{flat_map}
 use Rattle.drive.specs.Disk.{Sector, Disk, same_track}

@@ -1,12 +1,12 @@
 -- The plain pack: 264 bytes a place, in order of cylinder, head, place.
---   place_number    the number of a place on a drive, from 0
---   sector_at       the sector of place n: ID condition, data condition, the ID's five bytes, a zero, 256 bytes of data
---   plain_disk      what a plain pack means
---   heads_of        the heads by the length: two or three, or none where the length is not lawful
+--   place_number   the number of a place on a drive, from 0
+--   sector_at      the sector of place n: ID condition, data condition, the ID's five bytes, a zero, 256 bytes of data
+--   plain_disk     what a plain pack means
+--   heads_of       the heads by the length: two or three, or none where the length is not lawful
 --   zero_clear, conditions_clear   what is tested of a place: its zero byte, its two conditions
---   places_fault    what the places are refused by, if by anything
---   in_places       the same behind the test of the length
---   plain_fault     why bytes are no plain pack, if they are none: first the length, then any zero byte, then any condition
+--   places_fault   what the places are refused by, if by anything
+--   in_places      the same behind the test of the length
+--   plain_fault    why bytes are no plain pack, if they are none: first the length, then any zero byte, then any condition
 use Rattle.std.specs.Prelude.{ℕ, ◌+◌, ◌*◌, Bool, cond, ◌&&◌, List, length, take, drop, Some, None, Option, ◌==◌, nat_le, slice_index}
 use Rattle.basics.specs.declared.refusal.Refusal.{Refusal}
 use Rattle.basics.specs.declared.refusal.Refusal.TheVariants.{Length, Header, Record}

@@ -1,7 +1,7 @@
 -- Ten runs to remember, as one table: each is a list of calls over a card started new, with what is seen at its end.
---   Row          a run: the world it starts in, its calls, what of its end is looked at, and what that has to be
---   MarkedRuns   at the end of each run of the table one sees what one has to see
---   FurtherRuns  so one does with three of them again, on another track, with a key, and with the status words asked for
+--   Row           a run: the world it starts in, its calls, what of its end is looked at, and what that has to be
+--   MarkedRuns    at the end of each run of the table one sees what one has to see
+--   FurtherRuns   so one does with three of them again, on another track, with a key, and with the status words asked for
 use Rattle.std.specs.Prelude.{◌≡◌, ℕ, ◌+◌, ◌*◌, ◌/◌, ◌%◌, true, cond, List, [], ◌∷◌, ◌++◌, map, replicate, Some, None, Ok, ◌==◌, slice_index_or}
 use Rattle.storage.specs.Makes.{inside}
 use Rattle.storage.specs.Memory.{Memory}

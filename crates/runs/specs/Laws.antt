@@ -1,16 +1,16 @@
 -- The law over whole runs.
---   LastSent   each place holds what was last sent to it; one to which nothing was sent holds what it held
---   Alike      how two rules' runs from two starts come out alike: the same result, and the same at each place to which either sent anything
+--   LastSent     each place holds what was last sent to it; one to which nothing was sent holds what it held
+--   Alike        how two rules' runs from two starts come out alike: the same result, and the same at each place to which either sent anything
 --   AlikeWhere   so they do wherever the second start replies as the first to all that is looked at from the first
---   SameRun    of a run from a start and one from another: the same answers, and the same at each place to which either sent anything
---   RunLaw     of a run of calls from a start, with its end and its answers: nothing changes that was neither stored by the processor nor named
---              by an executed block; a start that agrees on all that is looked at comes out alike, whatever else it holds; each place holds what
---              was last sent to it
---   RunAudit   of a run of calls from a card and a start: at each moment the rules look at nothing but what they may, and execute and send exactly what
---              the law's words say; and the run looks at, executes and sends what its moments do, in order
---   AuditedLaw the law of a run of a new card, with its audit
---   EitherSent either of two runs of the same calls sent something to a place
---   BothAlike  two runs over two drives and two storages: where the second start agrees on all that the first run looks at, they come out alike
+--   SameRun      of a run from a start and one from another: the same answers, and the same at each place to which either sent anything
+--   RunLaw       of a run of calls from a start, with its end and its answers: nothing changes that was neither stored by the processor nor named
+--                by an executed block; a start that agrees on all that is looked at comes out alike, whatever else it holds; each place holds what
+--                was last sent to it
+--   RunAudit     of a run of calls from a card and a start: at each moment the rules look at nothing but what they may, and execute and send exactly what
+--                the law's words say; and the run looks at, executes and sends what its moments do, in order
+--   AuditedLaw   the law of a run of a new card, with its audit
+--   EitherSent   either of two runs of the same calls sent something to a place
+--   BothAlike    two runs over two drives and two storages: where the second start agrees on all that the first run looks at, they come out alike
 use Rattle.std.specs.Prelude.{◌≡◌, true, ◌⊎◌, List, ◌∷◌, ◌++◌}
 use Rattle.card.specs.Acts.{World, Sent, Act, ends, looked, sent, executed}
 use Rattle.card.specs.Calls.{new_card}

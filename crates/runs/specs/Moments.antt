@@ -1,6 +1,6 @@
 -- The law's words said by themselves: of a moment of a run and the next call, what that call looks at, executes and sends.
---   Moment, moments   the card and the world that the calls so far made, with the next call; the moments of a run, in order
---   doing             what the next call has in hand: the card's state at a step while no interrupt waits (unless_waiting), and else nothing
+--   Moment, moments    the card and the world that the calls so far made, with the next call; the moments of a run, in order
+--   doing              what the next call has in hand: the card's state at a step while no interrupt waits (unless_waiting), and else nothing
 --   words_asked, address_of, status_of, track_under   the words that a sector's count asks for and where they begin; the status words; the track under the heads
 --   can_read, can_store   whether a word may be read or stored with a key
 --   words_from, allowed_from, Tried   the words from an address on; whether each of them is allowed; one of them is tried: all before it were allowed
@@ -11,13 +11,13 @@
 --   searches, search_result   whether a search is made; the place that a sector's argument finds under the heads, if any
 --   read_sends, write_sends, place_sends, found_sends   what a sector step sends: Read Data its words, until one is not allowed; Write Data all its words or nothing
 --   sends_in, store_sends, sends_at   what the call sends: by the step in hand; an accepted store its word
---   Finds             an operation's search finds a place
+--   Finds              an operation's search finds a place
 --   TriesRead, TriesStore, ProcessorTries   which words' verdicts are asked for: by reads and stores of the step in hand, by the processor's store
---   OfSector          what is so of the sector in hand
---   LooksIn, MayLook  what the call may look at
+--   OfSector           what is so of the sector in hand
+--   LooksIn, MayLook   what the call may look at
 --   All, of_all        each element of a list is so; what the elements of a list give, in order
 --   looks_at           what the call looks at: the questions of its rule
---   Audited           a call looks at nothing but what it may, and its rule executes and sends exactly this
+--   Audited            a call looks at nothing but what it may, and its rule executes and sends exactly this
 --   looked_in, executed_in, sent_in   what a run of calls from a start looks at, executes and sends, in order
 use Rattle.std.specs.Prelude.{◌≡◌, ℕ, zero, suc, ◌+◌, ◌-◌, ◌*◌, ◌/◌, ◌%◌, min, Bool, true, false, cond, not, ◌&&◌, ◌⊎◌, List, [], ◌∷◌, ◌++◌, take, is_ok, Some, None, Ok, Err, Option, Result, ◌==◌, nat_lt}
 use Rattle.drive.specs.Disk.{is_good}

@@ -1,8 +1,8 @@
 -- What may be changed: what the processor stored, and what an executed control block names for writing.
 --   stores_to, processor_stored   whether a call is an accepted store to a place, and whether one of a list is
---   names_word    the words of a block's count, from its data address on
+--   names_word   the words of a block's count, from its data address on
 --   found_at, names_sector, some_below   a search finds a place; sector n of a block is at a place; one of the numbers below a bound passes a test
---   names_data    the data of the places that a block's argument finds under the heads, for its count, no sector above 59
+--   names_data   the data of the places that a block's argument finds under the heads, for its count, no sector above 59
 --   names_by, names_for, names   what a block names: Read Data and status their words, Write Data its data, the others nothing
 --   named        what one of the executed blocks names
 --   Untouched    at the end of a run every place that is neither is as it was at the start, and so are IDs, heads, size, verdicts and device

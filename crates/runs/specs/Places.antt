@@ -1,11 +1,11 @@
 -- Places, and what is sent to them.
---   Place       where something can be sent: a storage word, or the data of a sector
---   Content     what a place holds: a word, or data with their condition
+--   Place        where something can be sent: a storage word, or the data of a sector
+--   Content      what a place holds: a word, or data with their condition
 --   place_of, content_of   where something sent goes, and what it puts there: a short sector is padded with zeros, and good
 --   same_place   a test on places
---   holds       what a world holds at a place
+--   holds        what a world holds at a place
 --   goes_to, none_to, some_to   whether something sent, none or some of a list goes to a place
---   Agree       whether two worlds reply alike to a list of queries
+--   Agree        whether two worlds reply alike to a list of queries
 use Rattle.std.specs.Prelude.{◌≡◌, ℕ, Bool, false, not, ◌&&◌, List, [], ◌∷◌, ◌==◌}
 use Rattle.drive.specs.Disk.{DataField, same_track}
 use Rattle.drive.specs.Search.{some_of}

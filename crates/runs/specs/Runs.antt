@@ -1,6 +1,6 @@
 -- A run: any list of the six calls over one card. The law is of runs over a new card.
---   Ran    what a run comes to: the card, and the answers in order
---   run    the rules of a list of calls, one after the other
+--   Ran   what a run comes to: the card, and the answers in order
+--   run   the rules of a list of calls, one after the other
 --   calls_of, answers_of   the calls of a list of entries, and the answers beside them
 use Rattle.std.specs.Prelude.{List, [], ◌∷◌, map}
 use Rattle.card.specs.Acts.{Act, done, then}

@@ -1,8 +1,8 @@
 -- Numbers as they are written in scripts.
---   figures    whether every byte is a digit of the radix, in either case
---   number     what a word says as a number: digits only, and no more than `most`
---   word, byte, address, decimal     numbers in the ranges of scripts
---   hex        n in k hexadecimal digits, capital letters
+--   figures       whether every byte is a digit of the radix, in either case
+--   number        what a word says as a number: digits only, and no more than `most`
+--   word, byte, address, decimal   numbers in the ranges of scripts
+--   hex           n in k hexadecimal digits, capital letters
 --   hex_address   an address: five digits, or eight if it needs more than five
 use Rattle.std.specs.Prelude.{ℕ, zero, suc, ◌/◌, ◌%◌, Bool, true, cond, ◌&&◌, List, [], ◌∷◌, ◌++◌, length, Some, None, Option, nat_le, nat_lt}
 use Rattle.std.specs.Str.Parse.{digits_value}

@@ -1,5 +1,5 @@
 -- The fixed words that stand second in a line.
---   picked        what a table of words has for a word
+--   picked         what a table of words has for a word
 --   storage_kind   behind `storage`
 --   pack_kind      behind `pack`
 --   look_kind      behind `show`

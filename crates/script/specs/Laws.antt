@@ -1,8 +1,8 @@
 -- What is printed is read back.
---   Whole         a call whose words have 16 bits and whose key has 8, as all calls in a program
---   Sayable       calls that lines can say
---   ReadBack      a call that a line can say, printed as its line, is read as that call
---   call_script    calls printed a line each
+--   Whole            a call whose words have 16 bits and whose key has 8, as all calls in a program
+--   Sayable          calls that lines can say
+--   ReadBack         a call that a line can say, printed as its line, is read as that call
+--   call_script      calls printed a line each
 --   ScriptReadBack   calls that lines can say, printed a line each: the lines are read as these calls, and after the last there is nothing
 use Rattle.std.specs.Prelude.{◌≡◌, ℕ, ◌<◌, true, List, [], ◌∷◌, ◌++◌, map, Some}
 use Rattle.card.specs.declared.call.Call.{Call}

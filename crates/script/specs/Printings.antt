@@ -1,14 +1,14 @@
 -- Calls and answers as lines.
---   spaced       words with one space between each two
---   sayable      whether a line can say a call: all but a store past address FFFFF
---   call_verb     the verb of a call
---   call_words    the words of a call behind its verb
---   call_line     a call as its line
---   detail       what an exception tells last: the word that failed, the sector, or nothing
---   ended_text    an exception with the address of its control block
---   refused_text  a refusal by its number and its word
---   answer_text   an answer, without the verb in front
---   answer_line   the answer of a call as its line
+--   spaced         words with one space between each two
+--   sayable        whether a line can say a call: all but a store past address FFFFF
+--   call_verb      the verb of a call
+--   call_words     the words of a call behind its verb
+--   call_line      a call as its line
+--   detail         what an exception tells last: the word that failed, the sector, or nothing
+--   ended_text     an exception with the address of its control block
+--   refused_text   a refusal by its number and its word
+--   answer_text    an answer, without the verb in front
+--   answer_line    the answer of a call as its line
 use Rattle.std.specs.Prelude.{ℕ, Bool, true, cond, List, [], ◌∷◌, ◌++◌, codes, decimal, nat_lt}
 use Rattle.basics.specs.Numbers.{fault_number, fault_word}
 use Rattle.answers.specs.Exceptions.{command_number, command_word, command_code, exception_number, exception_word, layer_of, layer_word, answer_number, answer_word}

@@ -1,20 +1,20 @@
 -- What the words of a line say.
---   parity       behind the two words of a command: nothing, or `bad`
+--   parity             behind the two words of a command: nothing, or `bad`
 --   command_of, store_of   a command and a processor store, from the words behind their verbs
---   call_of       a call, from its verb and the words behind it
---   named        a name in no place: lines are told apart by their names, not by where these lie
+--   call_of            a call, from its verb and the words behind it
+--   named              a name in no place: lines are told apart by their names, not by where these lie
 --   placeless, placeless_line   a set-up line, and any line, with its name in no place
---   name_of       one word, which may be any
---   every        what f reads from each word
---   padded       the first n of a list, zeros behind
---   keys_of       the keys of a storage: how many, and the first 32
+--   name_of            one word, which may be any
+--   every              what f reads from each word
+--   padded             the first n of a list, zeros behind
+--   keys_of            the keys of a storage: how many, and the first 32
 --   storage_by, pack_by   a storage and a pack, from the kind and the words behind it
---   defect_of     the field of a place
---   set_up_of      a set-up line, from its verb and the words behind it
---   count_of      words to be shown: at most 65536
+--   defect_of          the field of a place
+--   set_up_of          a set-up line, from its verb and the words behind it
+--   count_of           words to be shown: at most 65536
 --   look_by, look_of   a line that only looks, from its kind and the words behind it; from the words behind `show`
---   line_by       a line, from its verb and the words behind it
---   line_of       a line, from its words
+--   line_by            a line, from its verb and the words behind it
+--   line_of            a line, from its words
 use Rattle.std.specs.Prelude.{ℕ, zero, suc, Bool, true, false, cond, List, [], ◌∷◌, length, Some, None, codes, Option, ◌==◌, nat_le, slice_index}
 use Rattle.std.specs.Borrow.{Bor}
 use Rattle.std.specs.Option.{option_map}

@@ -1,8 +1,8 @@
 -- Words taken from a line one after another.
---   after    goes on from what was read, if anything was
---   taken    what f reads from the first word, with the words behind it
---   first    goes on from what f reads from the first word, with the words behind it
---   end      what is said, if no word is left
+--   after              goes on from what was read, if anything was
+--   taken              what f reads from the first word, with the words behind it
+--   first              goes on from what f reads from the first word, with the words behind it
+--   end                what is said, if no word is left
 --   left, named_left   what a taking function answers: what was read, and the words of the text that is left
 use Rattle.std.specs.Prelude.{ℕ, List, [], ◌∷◌, Some, None, Ok, Err, Option, Result}
 use Rattle.std.specs.Borrow.{Bor}

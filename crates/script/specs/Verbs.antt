@@ -1,8 +1,8 @@
 -- The first words of lines.
 --   call_text, set_up_text, verb_text   the word of a verb
---   verbs      all verbs
---   verb_among  the first verb of a list that a word is
---   verb_of     the verb that a word is, if any
+--   verbs        all verbs
+--   verb_among   the first verb of a list that a word is
+--   verb_of      the verb that a word is, if any
 use Rattle.std.specs.Prelude.{ℕ, cond, List, [], ◌∷◌, Some, None, codes, Option}
 use Rattle.std.specs.Str.{bytes_eq}
 use Rattle.script.specs.declared.verb.CallVerb.{CallVerb}

@@ -1,10 +1,10 @@
 -- What each make of storage means, and when it can be made.
 --   lawful_size     the sizes that a storage can have: even, 2 to 65,536
 --   word_at         the word at an address of a list of bytes, high byte first; zero where none stands
---   inside         a verdict where a word stands, and invalid elsewhere
+--   inside          a verdict where a word stands, and invalid elsewhere
 --   plain_memory    plain storage: every word may be read and stored with every key
 --   and_then        the first verdict, and the second where the first allows the access
---   guarded        a storage below, with a second verdict on what it allows
+--   guarded         a storage below, with a second verdict on what it allows
 --   key_verdict     what the key of an address's block says to a key
 --   keyed_memory    storage in blocks with a key each: the block's key and key 0 open it
 --   parity_memory   a storage below, where reading a marked word is a storage data check

@@ -1,13 +1,13 @@
 -- What a storage means.
---   Verdict    an access is allowed, or it meets a fault
---   Memory     the size, the word at each even address, and the verdict of each address and key, for reading and for storing
---   is_word     whether a word stands at an address: it is even and below the size
---   Lawful     what every make of storage owes
+--   Verdict           an access is allowed, or it meets a fault
+--   Memory            the size, the word at each even address, and the verdict of each address and key, for reading and for storing
+--   is_word           whether a word stands at an address: it is even and below the size
+--   Lawful            what every make of storage owes
 --   allowed, where_allowed   what is at hand, or what comes after, where a verdict allows it
---   with_word   a storage with one word set
---   loaded     what a read of a word answers
+--   with_word         a storage with one word set
+--   loaded            what a read of a word answers
 --   copying, copied   what a word copied to another address answers and leaves
---   stored     the storage after a store of a word: that word alone is set, and only where the store is allowed
+--   stored            the storage after a store of a word: that word alone is set, and only where the store is allowed
 use Rattle.std.specs.Prelude.{◌≡◌, ℕ, ◌%◌, ◌≤◌, Bool, false, cond, ◌&&◌, Ok, Err, Result, ◌==◌, ◌≢◌, nat_lt}
 use Rattle.basics.specs.declared.fault.Fault.{Fault}
 use Rattle.basics.specs.declared.fault.Fault.TheVariants.{StorageDataCheck, InvalidAddress}

@@ -41,7 +41,7 @@ BY_HAND = {
     "run-executes": "run_executes",
     "fetch-well": "fetch_well",
     # a definition that would have the name of a field
-    "writeSector": "write_sector_lem",
+    "writeSector": "write_data_sector",
     "idWord": "waiting_words",
     # a definition that has the name of a tactic
     "first_of": "first_from",

@@ -7,7 +7,7 @@ use Rattle.drive.specs.declared.geometry.Track.{Track}
 use Rattle.card.specs.Acts.{World, Sent, to_word, to_sector, spares_storage, spares_drive, Act, done, ask, send, execute, answer, put, Ended, ended, ends, sent, world, then}
 use Rattle.card.specs.Blocks.{key, count, data_address}
 use Rattle.card.specs.Calls.{Turn}
-use Rattle.card.specs.Steps.{transferred, gathered, words_left, sector_address, read_sector, write_sector_lem, status_words, status_sent, send_status}
+use Rattle.card.specs.Steps.{transferred, gathered, words_left, sector_address, read_sector, write_data_sector, status_words, status_sent, send_status}
 use Rattle.card.specs.Words.{Moved, Fetched, fetch_words, store_words, words_of, residual_of, well, stopped_at}
 use Rattle.card.specs.declared.control_block.Block.{Block}
 use Rattle.card.specs.declared.registers.Card.{Card}
@@ -70,7 +70,7 @@ read_spares c b n t p w bytes count a k good is_bytes is_count is_address is_key
 
 -- a sector whose words were all fetched is written
 pub write_sent : (c : Card) (b : Block) (n : ℕ) (t : Track) (p : ℕ) (w : World) (count a k : ℕ) → count ≡ words_left b n → a ≡ sector_address b n → k ≡ key b
-    → (words : List ℕ) (r : ℕ) → ends (fetch_words count a k c.residual) w ≡ ended record { words = words; moved = well r } w → spares_drive (sent (write_sector_lem c b n t p) w) ≡ true → ⊥
+    → (words : List ℕ) (r : ℕ) → ends (fetch_words count a k c.residual) w ≡ ended record { words = words; moved = well r } w → spares_drive (sent (write_data_sector c b n t p) w) ≡ true → ⊥
 write_sent c b n t p w count a k is_count is_address is_key words r came spared =
     let act = fetch_words (words_left b n) (sector_address b n) (key b) c.residual in
     let same : ends act w ≡ ended record { words = words; moved = well r } w =

@@ -9,7 +9,7 @@ use Rattle.drive.specs.declared.geometry.Track.{Track}
 use Rattle.card.specs.Acts.{World, Ended, Act, done, ask, device_address, to_sector, put, ends, ended, world}
 use Rattle.card.specs.Blocks.{even, chaining, key, count, data_address}
 use Rattle.card.specs.Calls.{Turn, with_residual}
-use Rattle.card.specs.Steps.{failed_turn, failed, chained_turn, device_end, finished, checked, residual_for, fetched, fetch, sector_failed, sector_done, transferred, gathered, words_left, sector_address, read_sector, write_sector_lem, status_words, status_sent, send_status}
+use Rattle.card.specs.Steps.{failed_turn, failed, chained_turn, device_end, finished, checked, residual_for, fetched, fetch, sector_failed, sector_done, transferred, gathered, words_left, sector_address, read_sector, write_data_sector, status_words, status_sent, send_status}
 use Rattle.card.specs.Words.{Moved, Fetched, fetch_words, store_words, words_of, well, stopped_at}
 use Rattle.answers.specs.declared.answer.Exception.TheVariants.{SpecificationCheck, Storage}
 use Rattle.card.specs.declared.control_block.Block.{Block}
@@ -63,18 +63,18 @@ read_comes c b n t p w w' m bytes count a k good is_bytes is_count is_address is
 
 -- a sector that was found is written: by what the fetches came to
 module _ (c : Card) (b : Block) (n : ℕ) (t : Track) (p : ℕ) (w : World) (count a k : ℕ) (is_count : count ≡ words_left b n) (is_address : a ≡ sector_address b n) (is_key : k ≡ key b) where
-  came_from : ends (write_sector_lem c b n t p) w ≡ ends (gathered c b n t p (ends (fetch_words count a k c.residual) w).result) (ends (fetch_words count a k c.residual) w).world
+  came_from : ends (write_data_sector c b n t p) w ≡ ends (gathered c b n t p (ends (fetch_words count a k c.residual) w).result) (ends (fetch_words count a k c.residual) w).world
   came_from =
       ends-then (fetch_words (words_left b n) (sector_address b n) (key b) c.residual) (λ f. gathered c b n t p f) w
       ∙ ap (λ (e : Ended Fetched). ends (gathered c b n t p e.result) e.world)
       (ap₂ (λ (j x : ℕ). ends (fetch_words j x (key b) c.residual) w) (sym is_count) (sym is_address) ∙ ap (λ (y : ℕ). ends (fetch_words count a y c.residual) w) (sym is_key))
 
   pub write_comes : (words : List ℕ) (r : ℕ) → ends (fetch_words count a k c.residual) w ≡ ended record { words = words; moved = well r } w
-      → ends (write_sector_lem c b n t p) w ≡ ends (sector_done (with_residual r c) b n) (put (to_sector t p words) w)
+      → ends (write_data_sector c b n t p) w ≡ ends (sector_done (with_residual r c) b n) (put (to_sector t p words) w)
   write_comes words r came = came_from ∙ ap (λ (e : Ended Fetched). ends (gathered c b n t p e.result) e.world) came
 
   pub write_stopped : (r x : ℕ) (f : Fault) → (ends (fetch_words count a k c.residual) w).result.moved ≡ stopped_at r f x → (ends (fetch_words count a k c.residual) w).world ≡ w
-      → ends (write_sector_lem c b n t p) w ≡ ends (sector_failed (with_residual r c) b n (Storage f x)) w
+      → ends (write_data_sector c b n t p) w ≡ ends (sector_failed (with_residual r c) b n (Storage f x)) w
   write_stopped r x f moved same =
       came_from
       ∙ ap₂ (λ (m : Moved) (u : World). ends (gathered c b n t p record { words = (ends (fetch_words count a k c.residual) w).result.words; moved = m }) u) moved same

@@ -172,12 +172,12 @@ gathered c b n t p f =
     or_stopped (with_residual f.moved.residual c) b n f.moved.stopped
     (send (to_sector t p f.words) (sector_done (with_residual f.moved.residual c) b n))
 
-abbrev pub write_sector_lem : Card → Block → ℕ → Track → ℕ → Act Turn
-write_sector_lem c b n t p = then (fetch_words (words_left b n) (sector_address b n) (key b) c.residual) (λ f. gathered c b n t p f)
+abbrev pub write_data_sector : Card → Block → ℕ → Track → ℕ → Act Turn
+write_data_sector c b n t p = then (fetch_words (words_left b n) (sector_address b n) (key b) c.residual) (λ f. gathered c b n t p f)
 
 abbrev pub found : Card → Block → ℕ → Track → ℕ → Option Operation → Act Turn
 found c b n t p (Some ReadData) = read_sector c b n t p
-found c b n t p (Some WriteData) = write_sector_lem c b n t p
+found c b n t p (Some WriteData) = write_data_sector c b n t p
 found c b n t p (Some ReadVerify) = verify_sector c b n t p
 found c b n t p (Some Seek) = done (turn c NothingToDo)
 found c b n t p (Some Recalibrate) = done (turn c NothingToDo)

@@ -5,7 +5,7 @@ ghost use Rattle.drive.specs.Disk.{Disk, is_good};
 ghost use Rattle.card.specs.Acts.{spares_storage, spares_drive, ends, sent, ended, world, bytes_of};
 ghost use Rattle.card.specs.Blocks.{modifier, operation_of, sector_now};
 ghost use Rattle.card.specs.Calls.{turn};
-ghost use Rattle.card.specs.Steps.{failed_turn, under_heads, write_ends, sector_done, words_left, sector_address, verify_sector, read_sector, write_sector_lem, found, searched_sector, sector_step};
+ghost use Rattle.card.specs.Steps.{failed_turn, under_heads, write_ends, sector_done, words_left, sector_address, verify_sector, read_sector, write_data_sector, found, searched_sector, sector_step};
 
 use crate::control_block::{Block, Operation};
 use crate::registers::{Card, Position, State};
@@ -171,8 +171,8 @@ impl Card {
         place: u8,
     ) -> Answer
         requires { is_good ((D.Drive.meaning drive.old).sector track place).id.condition ≡ true }
-        ensures came { ends (write_sector_lem self.old block done track place) (world device (D.Drive.meaning drive.old) (S.Storage.meaning storage.now)) ≡ ended (turn self.new result) (world device (D.Drive.meaning drive.new) (S.Storage.meaning storage.now)) }
-        ensures drive { spares_drive (sent (write_sector_lem self.old block done track place) (world device (D.Drive.meaning drive.old) (S.Storage.meaning storage.now))) ≡ true → drive.new ≡ drive.old }
+        ensures came { ends (write_data_sector self.old block done track place) (world device (D.Drive.meaning drive.old) (S.Storage.meaning storage.now)) ≡ ended (turn self.new result) (world device (D.Drive.meaning drive.new) (S.Storage.meaning storage.now)) }
+        ensures drive { spares_drive (sent (write_data_sector self.old block done track place) (world device (D.Drive.meaning drive.old) (S.Storage.meaning storage.now))) ≡ true → drive.new ≡ drive.old }
     {
         let count = words_left(block, done);
         let address = sector_address(block, done);

@@ -334,17 +334,18 @@ fn check_block(
     residual: u16,
     case: &Case,
 ) -> Result<(), Fail> {
-    put_block(rt, machine, 0x0100, &case.1)?;
-    expect(rt, machine, Ask::Command(command, 0x0100), OK)?;
+    let row = case.0;
+    put_block(rt, row, machine, 0x0100, &case.1)?;
+    expect(rt, row, machine, Ask::Command(command, 0x0100), OK)?;
     if case.2 {
-        expect(rt, machine, Ask::Step, Said::Stepped)?;
-        expect(rt, machine, Ask::Service, NOTHING_WAITS)?;
-        expect(rt, machine, Ask::Halt, Said::Done)?;
+        expect(rt, row, machine, Ask::Step, Said::Stepped)?;
+        expect(rt, row, machine, Ask::Service, NOTHING_WAITS)?;
+        expect(rt, row, machine, Ask::Halt, Said::Done)?;
     } else {
-        expect(rt, machine, Ask::Step, SPECIFICATION_CHECK)?;
-        expect(rt, machine, Ask::Service, Said::Interrupt(2, 0x1003))?;
+        expect(rt, row, machine, Ask::Step, SPECIFICATION_CHECK)?;
+        expect(rt, row, machine, Ask::Service, Said::Interrupt(2, 0x1003))?;
     }
-    assert_eq!(rt; status(rt, machine)?, [residual, 0, 0, 0]);
+    assert_eq!(rt; status(rt, row, machine)?, [residual, 0, 0, 0], "{row}");
     Ok(())
 }
 
@@ -356,8 +357,14 @@ fn check_blocks(
     cases: &[Case],
 ) -> Result<(), Fail> {
     let mut machine = new_machine(heap)?;
-    expect(rt, &mut machine, Ask::Ready, Said::Done)?;
-    expect(rt, &mut machine, Ask::Command(0x6003, 0x0001), OK)?;
+    expect(rt, "ready", &mut machine, Ask::Ready, Said::Done)?;
+    expect(
+        rt,
+        "prepare",
+        &mut machine,
+        Ask::Command(0x6003, 0x0001),
+        OK,
+    )?;
     for case in cases {
         check_block(rt, &mut machine, command, residual, case)?;
     }

@@ -242,7 +242,7 @@ fn levels(rt: HostRuntime) -> Result<(), Fail> {
         (0xFFE1, 0, true),
         (0xFFFF, 15, true),
     ] {
-        expect(&rt, &mut machine, Ask::Command(0x6003, word), OK)?;
+        expect(&rt, "prepare", &mut machine, Ask::Command(0x6003, word), OK)?;
         let card = machine.card();
         assert_eq!(rt; (card.level, card.enabled), (level, enabled), "{}", word);
     }

@@ -14,13 +14,14 @@ pub struct DataWord(pub u16, pub u8, pub u8, pub u8, pub u16);
 // Stores a control block with key 0.
 pub fn put_block(
     rt: &impl Abort,
+    row: &str,
     machine: &mut Machine,
     address: u16,
     block: &[u16; 8],
 ) -> Result<(), Fail> {
     let mut at = u32::from(address);
     for word in block {
-        expect(rt, machine, Ask::Store(at, 0, *word), Said::Done)?;
+        expect(rt, row, machine, Ask::Store(at, 0, *word), Said::Done)?;
         at = at.wrapping_add(2);
     }
     Ok(())
@@ -28,12 +29,18 @@ pub fn put_block(
 
 // The four status words, as Start Cycle Steal Status brings them to X0030, by a block at X0020. The card has to be free,
 // with interrupts enabled.
-pub fn status(rt: &impl Abort, machine: &mut Machine) -> Result<[u16; 4], Fail> {
-    put_block(rt, machine, 0x0020, &[0x2000, 0, 0, 0, 0, 0, 8, 0x0030])?;
-    expect(rt, machine, Ask::Command(0x7F03, 0x0020), OK)?;
-    expect(rt, machine, Ask::Step, Said::Stepped)?;
-    expect(rt, machine, Ask::Step, Said::Stepped)?;
-    expect(rt, machine, Ask::Service, Said::Interrupt(3, 0x0003))?;
+pub fn status(rt: &impl Abort, row: &str, machine: &mut Machine) -> Result<[u16; 4], Fail> {
+    put_block(
+        rt,
+        row,
+        machine,
+        0x0020,
+        &[0x2000, 0, 0, 0, 0, 0, 8, 0x0030],
+    )?;
+    expect(rt, row, machine, Ask::Command(0x7F03, 0x0020), OK)?;
+    expect(rt, row, machine, Ask::Step, Said::Stepped)?;
+    expect(rt, row, machine, Ask::Step, Said::Stepped)?;
+    expect(rt, row, machine, Ask::Service, Said::Interrupt(3, 0x0003))?;
     let storage = machine.storage();
     Ok([
         storage.load(0x0030, 0)?,
@@ -49,9 +56,18 @@ pub fn position(machine: &Machine) -> (u16, u8) {
     (position.cylinder, position.head)
 }
 
-pub fn check_words(rt: &impl Abort, machine: &Machine, words: &[(u32, u16)]) -> Result<(), Fail> {
+pub fn check_words(
+    rt: &impl Abort,
+    row: &str,
+    machine: &Machine,
+    words: &[(u32, u16)],
+) -> Result<(), Fail> {
     for (address, word) in words {
-        assert_eq!(rt; machine.storage().load(*address, 0)?, *word, "{}", *address);
+        assert_eq!(rt;
+            machine.storage().load(*address, 0)?,
+            *word,
+            "{row}, {address}"
+        );
     }
     Ok(())
 }
@@ -64,14 +80,19 @@ fn word_of(bytes: &[u8], number: u8) -> Option<u16> {
     None
 }
 
-pub fn check_data(rt: &impl Abort, machine: &Machine, data: &[DataWord]) -> Result<(), Fail> {
+pub fn check_data(
+    rt: &impl Abort,
+    row: &str,
+    machine: &Machine,
+    data: &[DataWord],
+) -> Result<(), Fail> {
     for DataWord(cylinder, head, place, number, word) in data {
         let track = Track {
             cylinder: *cylinder,
             head: *head,
         };
         let found = word_of(machine.drive().read(track, *place)?, *number);
-        assert_eq!(rt; found, Some(*word), "{}", *place);
+        assert_eq!(rt; found, Some(*word), "{row}, {place}");
     }
     Ok(())
 }

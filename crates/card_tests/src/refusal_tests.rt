@@ -237,13 +237,13 @@ fn brought(rt: &impl Abort, heap: Global, before: &[Ask]) -> Result<Machine, Fai
 fn play_refused(rt: &impl Abort, heap: Global, row: &Refused) -> Result<(), Fail> {
     let mut had = brought(rt, heap, row.1)?;
     let mut had_not = brought(rt, heap, row.1)?;
-    expect(rt, &mut had, row.2, row.3)?;
-    assert_eq!(rt; seen(&had), seen(&had_not));
+    expect(rt, row.0, &mut had, row.2, row.3)?;
+    assert_eq!(rt; seen(&had), seen(&had_not), "{}", row.0);
     for ask in &GOING_ON {
         let said = answered(had_not.carry_out(ask.call()));
-        expect(rt, &mut had, *ask, said)?;
+        expect(rt, row.0, &mut had, *ask, said)?;
     }
-    assert_eq!(rt; seen(&had), seen(&had_not));
+    assert_eq!(rt; seen(&had), seen(&had_not), "{}", row.0);
     Ok(())
 }
 

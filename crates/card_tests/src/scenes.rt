@@ -51,54 +51,63 @@ pub const USUAL: Scene = Scene {
 };
 
 // Moves the heads by a block at X0040, up from cylinder 0.
-fn seek(rt: &impl Abort, machine: &mut Machine, to: (u16, u8)) -> Result<(), Fail> {
+fn seek(rt: &impl Abort, row: &str, machine: &mut Machine, to: (u16, u8)) -> Result<(), Fail> {
     let (cylinder, head) = to;
     put_block(
         rt,
+        row,
         machine,
         0x0040,
         &[0x0005, cylinder, 0, 0, 256 * u16::from(head), 0, 0, 0],
     )?;
-    expect(rt, machine, Ask::Command(0x7003, 0x0040), OK)?;
-    expect(rt, machine, Ask::Step, Said::Stepped)?;
-    expect(rt, machine, Ask::Step, Said::Stepped)?;
-    expect(rt, machine, Ask::Service, Said::Interrupt(3, 0x0003))
+    expect(rt, row, machine, Ask::Command(0x7003, 0x0040), OK)?;
+    expect(rt, row, machine, Ask::Step, Said::Stepped)?;
+    expect(rt, row, machine, Ask::Step, Said::Stepped)?;
+    expect(rt, row, machine, Ask::Service, Said::Interrupt(3, 0x0003))
 }
 
 // the machine as the scene finds it: ready, interrupts enabled
 fn found(rt: &impl Abort, heap: Global, scene: &Scene) -> Result<Machine, Fail> {
+    let row = scene.name;
     let mut machine = RunSoFar::start(
         DEVICE,
         make_disk(heap, scene.bytes, scene.spoiled)?,
         make_memory(heap, scene.marks)?,
     );
-    expect(rt, &mut machine, Ask::Ready, Said::Done)?;
-    expect(rt, &mut machine, Ask::Command(0x6003, 0x0001), OK)?;
+    expect(rt, row, &mut machine, Ask::Ready, Said::Done)?;
+    expect(rt, row, &mut machine, Ask::Command(0x6003, 0x0001), OK)?;
     if scene.from != (0, 0) {
-        seek(rt, &mut machine, scene.from)?;
+        seek(rt, row, &mut machine, scene.from)?;
     }
     for (address, word) in scene.stored {
-        expect(rt, &mut machine, Ask::Store(*address, 0, *word), Said::Done)?;
+        expect(
+            rt,
+            row,
+            &mut machine,
+            Ask::Store(*address, 0, *word),
+            Said::Done,
+        )?;
     }
     let mut address = 0x0100u16;
     for block in scene.blocks {
-        put_block(rt, &mut machine, address, block)?;
+        put_block(rt, row, &mut machine, address, block)?;
         address = address.wrapping_add(16);
     }
     Ok(machine)
 }
 
 fn play_scene(rt: &impl Abort, heap: Global, scene: &Scene) -> Result<(), Fail> {
+    let row = scene.name;
     let mut machine = found(rt, heap, scene)?;
-    expect(rt, &mut machine, Ask::Command(0x7003, 0x0100), OK)?;
+    expect(rt, row, &mut machine, Ask::Command(0x7003, 0x0100), OK)?;
     for said in scene.steps {
-        expect(rt, &mut machine, Ask::Step, *said)?;
+        expect(rt, row, &mut machine, Ask::Step, *said)?;
     }
-    expect(rt, &mut machine, Ask::Service, scene.waits)?;
-    assert_eq!(rt; position(&machine), scene.at);
-    check_words(rt, &machine, scene.words)?;
-    check_data(rt, &machine, scene.data)?;
-    assert_eq!(rt; status(rt, &mut machine)?, scene.status);
+    expect(rt, row, &mut machine, Ask::Service, scene.waits)?;
+    assert_eq!(rt; position(&machine), scene.at, "{row}");
+    check_words(rt, row, &machine, scene.words)?;
+    check_data(rt, row, &machine, scene.data)?;
+    assert_eq!(rt; status(rt, row, &mut machine)?, scene.status, "{row}");
     Ok(())
 }
 

@@ -79,18 +79,23 @@ pub fn furnished(rt: &impl Abort, heap: Global, marks: &[u32]) -> Result<Machine
         make_memory(heap, marks)?,
     );
     for (address, block) in &BLOCKS {
-        put_block(rt, &mut machine, *address, block)?;
+        put_block(rt, "furnished", &mut machine, *address, block)?;
     }
     Ok(machine)
 }
 
 fn play_stage(rt: &impl Abort, machine: &mut Machine, stage: &Stage) -> Result<(), Fail> {
+    let row = stage.0;
     for (ask, said) in stage.1 {
-        expect(rt, machine, *ask, *said)?;
+        expect(rt, row, machine, *ask, *said)?;
     }
     let card = machine.card();
-    assert_eq!(rt; [card.residual, card.errors, card.write_sector], stage.2);
-    assert_eq!(rt; position(machine), stage.3);
+    assert_eq!(rt;
+        [card.residual, card.errors, card.write_sector],
+        stage.2,
+        "{row}"
+    );
+    assert_eq!(rt; position(machine), stage.3, "{row}");
     Ok(())
 }
 
@@ -106,5 +111,5 @@ pub fn play_stages(
     for stage in stages {
         play_stage(rt, &mut machine, stage)?;
     }
-    check_words(rt, &machine, words)
+    check_words(rt, "in the end", &machine, words)
 }

@@ -733,17 +733,22 @@ static BEFORE_SENDING: [(Ask, Said); 10] = [
 ];
 
 fn play_sending(rt: &impl Abort, heap: Global, sending: &Sending) -> Result<(), Fail> {
+    let row = sending.0;
     let mut machine = furnished(rt, heap, &[])?;
     for (ask, said) in &BEFORE_SENDING {
-        expect(rt, &mut machine, *ask, *said)?;
+        expect(rt, row, &mut machine, *ask, *said)?;
     }
-    put_block(rt, &mut machine, 0x0200, &sending.1)?;
-    expect(rt, &mut machine, Ask::Command(0x7F03, 0x0200), OK)?;
-    expect(rt, &mut machine, Ask::Step, Said::Stepped)?;
-    expect(rt, &mut machine, Ask::Step, sending.2)?;
-    expect(rt, &mut machine, Ask::Service, sending.3)?;
-    check_words(rt, &machine, sending.4)?;
-    assert_eq!(rt; status(rt, &mut machine)?, [0x012E, 0x0001, 5, 0]);
+    put_block(rt, row, &mut machine, 0x0200, &sending.1)?;
+    expect(rt, row, &mut machine, Ask::Command(0x7F03, 0x0200), OK)?;
+    expect(rt, row, &mut machine, Ask::Step, Said::Stepped)?;
+    expect(rt, row, &mut machine, Ask::Step, sending.2)?;
+    expect(rt, row, &mut machine, Ask::Service, sending.3)?;
+    check_words(rt, row, &machine, sending.4)?;
+    assert_eq!(rt;
+        status(rt, row, &mut machine)?,
+        [0x012E, 0x0001, 5, 0],
+        "{row}"
+    );
     Ok(())
 }
 

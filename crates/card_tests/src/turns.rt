@@ -51,11 +51,12 @@ impl Ask {
 // Makes one call.
 pub fn expect(
     rt: &impl Abort,
+    row: &str,
     machine: &mut Machine,
     ask: Ask,
     expected: Said,
 ) -> Result<(), Fail> {
-    assert_eq!(rt; answered(machine.carry_out(ask.call())), expected);
+    assert_eq!(rt; answered(machine.carry_out(ask.call())), expected, "{row}");
     Ok(())
 }
 
@@ -75,12 +76,7 @@ pub fn entries(heap: Global, turns: &[Turn]) -> Result<Vec<Entry>, AllocError> {
 fn play_singly(rt: &impl Abort, heap: Global, turns: &[Turn]) -> Result<(), Fail> {
     let mut machine = new_machine(heap)?;
     for turn in turns {
-        assert_eq!(rt;
-            answered(machine.carry_out(turn.1.call())),
-            turn.2,
-            "{}",
-            turn.0
-        );
+        expect(rt, turn.0, &mut machine, turn.1, turn.2)?;
     }
     Ok(())
 }

@@ -9,10 +9,10 @@ use Rattle.card.specs.Acts.{World, Query, device_address, head_count, storing, i
 use Rattle.card.specs.Blocks.{even, chaining, key, modifier, head, count, data_address, operation_of, lawful, lawful_status, left, sector_now}
 use Rattle.card.specs.Calls.{Turn, turn, is_busy, command_of, meets_busy, known, at_position, with_residual}
 use Rattle.runs.specs.Laws.{RunAudit}
-use Rattle.runs.specs.Moments.{Moment, moments, unless_waiting, doing, can_read, can_store, words_from, allowed_from, block_from, head_fits, passes_as, passes, executes_in, while_allowed, searches, search_result, read_sends, write_sends, place_sends, found_sends, sends_in, store_sends, Finds, LooksIn, All, of_all, looks_at, Audited}
+use Rattle.runs.specs.Moments.{Moment, moments, unless_waiting, doing, can_read, can_store, words_from, allowed_from, block_from, head_fits, passes_as, passes, executes_in, while_allowed, searches, search_result, read_sends, write_sends, place_sends, found_sends, sends_in, store_sends, Finds, LooksIn, AllOf, of_all, looks_at, Audited}
 use Rattle.card.specs.Rules.{call}
 use Rattle.runs.specs.Runs.{run}
-use Rattle.card.specs.Steps.{finished, executes, checked_head, checked_operation, checked, residual_for, fetched, fetch, destination, landed, move, under_heads, write_ends, sector_done, or_stopped, transferred, words_left, sector_address, verify_sector, read_sector, gathered, write_sector_lem, found, placed, sector_step, status_words, status_sent, send_status, in_hand}
+use Rattle.card.specs.Steps.{finished, executes, checked_head, checked_operation, checked, residual_for, fetched, fetch, destination, landed, move, under_heads, write_ends, sector_done, or_stopped, transferred, words_left, sector_address, verify_sector, read_sector, gathered, write_data_sector, found, placed, sector_step, status_words, status_sent, send_status, in_hand}
 use Rattle.card.specs.Words.{Moved, Fetched, fetch_words, store_words, words_of}
 use Rattle.answers.specs.declared.answer.Answer.TheVariants.{Done, StoreRefused, Idle as NothingToDo}
 use Rattle.card.specs.declared.call.Call.{Call}
@@ -179,7 +179,7 @@ module _ (c : Card) (w : World) (b : Block) (n : ℕ) where
   gathers_not p r words s x u option_is_some =
       subst (λ (z : Option Stopped). Does InHand [] [] (gathered c b n (under_heads c.position) p record { words = words; moved = record { residual = r; stopped = z } }) u) (sym option_is_some) (quiet_told InHand tt u _)
 
-  writes_place : (p : ℕ) → Finds c w b n WriteData p → Does InHand [] (write_sends c w b n p) (write_sector_lem c b n (under_heads c.position) p) w
+  writes_place : (p : ℕ) → Finds c w b n WriteData p → Does InHand [] (write_sends c w b n p) (write_data_sector c b n (under_heads c.position) p) w
   unfolding InHand
   writes_place p finds =
       let t = under_heads c.position in
@@ -344,7 +344,7 @@ module _ (c : Card) (w : World) (x : Call) (xs : List Call) where
 
 -- a run looks at, executes and sends what its moments do
 pub run_audit : (c : Card) (w : World) (calls : List Call) → RunAudit c w calls
-unfolding run looked executed moments All of_all
+unfolding run looked executed moments AllOf of_all
 run_audit c w [] = record { each = tt; looks = refl; executes = refl; sends = refl }
 run_audit c w (x ∷ xs) =
     let m : Moment = record { card = c; world = w; next = x } in

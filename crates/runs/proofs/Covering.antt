@@ -14,7 +14,7 @@ use Rattle.card.specs.Rules.{call}
 use Rattle.runs.specs.Runs.{Ran, run}
 use Rattle.runs.specs.Named.{stores_to, processor_stored, names_word, names_sector, some_below, names_by, names, named, found_at}
 use Rattle.runs.specs.Places.{Place, word_place, data_place}
-use Rattle.card.specs.Steps.{failed_passing, finished, checked_head, checked_operation, checked, residual_for, fetched, fetch, move, destination, landed, under_heads, write_ends, sector_failed_passing, sector_done, or_stopped, transferred, words_left, sector_address, verify_sector, read_sector, gathered, write_sector_lem, found, placed, searched_sector, sector_step, status_words, status_sent, send_status, in_hand, step}
+use Rattle.card.specs.Steps.{failed_passing, finished, checked_head, checked_operation, checked, residual_for, fetched, fetch, move, destination, landed, under_heads, write_ends, sector_failed_passing, sector_done, or_stopped, transferred, words_left, sector_address, verify_sector, read_sector, gathered, write_data_sector, found, placed, searched_sector, sector_step, status_words, status_sent, send_status, in_hand, step}
 use Rattle.card.specs.Words.{fetch_words, store_words, words_of}
 use Rattle.answers.specs.declared.answer.Answer.TheVariants.{Done, StoreRefused, NothingWaits, Stepped, Idle as NothingToDo}
 use Rattle.answers.specs.declared.answer.Exception.{Exception}
@@ -149,7 +149,7 @@ module _ (w₀ : World) (calls : List Call) where
         few i h = omega (arith, length-take (words_left b n) (words_of (w.disk.sector t p).datum.bytes))
 
     pub safe_write : (w : World) → Kept w₀ w → (p : ℕ) → operation_of (modifier b) ≡ Some WriteData → found_at p (searched (argument b n) (ids w₀.disk (under_heads c.position))) ≡ true
-        → SafeTurn E (write_sector_lem c b n (under_heads c.position) p) w
+        → SafeTurn E (write_data_sector c b n (under_heads c.position) p) w
     unfolding SafeTurn Safe
     safe_write w kept p op hit =
         safe_then Covered TurnOk E (fetch_words (words_left b n) (sector_address b n) (key b) c.residual) (λ f. gathered c b n (under_heads c.position) p f) w

@@ -3,7 +3,7 @@ use Rattle.std.proofs.Common.{◌≡◌, ℕ, zero, suc, ◌+◌, ◌%◌, ◌�
 use Rattle.std.proofs.lemmas.Bool.{and_parts, both_ways, true≢false}
 use Rattle.storage.specs.Memory.{Verdict, allowed}
 use Rattle.card.specs.Acts.{World, Query, Reply, word_at, reading, storing, Sent, to_word, Executed, Act, done, ask, send, execute, answer, put, Ended, ends, looked, sent, executed, then}
-use Rattle.runs.specs.Moments.{can_read, can_store, words_from, allowed_from, Tried, while_allowed, All}
+use Rattle.runs.specs.Moments.{can_read, can_store, words_from, allowed_from, Tried, while_allowed, AllOf}
 use Rattle.card.specs.Words.{Moved, Fetched, fetch_words, store_words, residual_of, well, stopped_at}
 use Rattle.card.specs.declared.transfer.Stopped.{Stopped}
 use Rattle.card.proofs.Spares.{sent-then}
@@ -11,7 +11,7 @@ use Rattle.card.proofs.Transfers.{fetch_ok, fetch_err}
 
 -- an act looks only at what is allowed, executes these blocks and sends these things
 pub record Does {A : Type 0} (L : Query → Type 0) (E : List Executed) (S : List Sent) (a : Act A) (w : World) : Type 0 where
-  pub looks : All L (looked a w)
+  pub looks : AllOf L (looked a w)
   pub executes : executed a w ≡ E
   pub sends : sent a w ≡ S
 
@@ -29,14 +29,14 @@ executed-then (ask q k) f w = executed-then (k (answer q w)) f w
 executed-then (send s a) f w = executed-then a f (put s w)
 executed-then (execute e a) f w = ap (λ (es : List Executed). e ∷ es) (executed-then a f w)
 
-all_append : {X : Type 0} (P : X → Type 0) (xs ys : List X) → All P xs → All P ys → All P (xs ++ ys)
-unfolding All
+all_append : {X : Type 0} (P : X → Type 0) (xs ys : List X) → AllOf P xs → AllOf P ys → AllOf P (xs ++ ys)
+unfolding AllOf
 all_append P [] ys first second = second
 all_append P (x ∷ xs) ys first second = (first.0, all_append P xs ys first.1 second)
 
 module _ (L : Query → Type 0) where
   pub does_done : {A : Type 0} (x : A) (w : World) → Does L [] [] (done x) w
-  unfolding looked executed All
+  unfolding looked executed AllOf
   does_done x w = record { looks = tt; executes = refl; sends = refl }
 
   pub does_as : {A : Type 0} (E E' : List Executed) (S S' : List Sent) (a : Act A) (w : World) → E ≡ E' → S ≡ S' → Does L E S a w → Does L E' S' a w
@@ -44,7 +44,7 @@ module _ (L : Query → Type 0) where
 
   module _ {A : Type 0} (E : List Executed) (S : List Sent) (w : World) where
     pub does_ask : (q : Query) (k : Reply q → Act A) → L q → Does L E S (k (answer q w)) w → Does {A = A} L E S (ask q k) w
-    unfolding looked executed All
+    unfolding looked executed AllOf
     does_ask q k may d = record { looks = (may, d.looks); executes = d.executes; sends = d.sends }
 
     pub does_send : (s : Sent) (a : Act A) → Does L E S a (put s w) → Does L E (s ∷ S) (send s a) w

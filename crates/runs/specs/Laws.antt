@@ -14,7 +14,7 @@
 use Rattle.std.specs.Prelude.{◌≡◌, true, ◌⊎◌, List, ◌∷◌, ◌++◌}
 use Rattle.card.specs.Acts.{World, Sent, Act, ends, looked, sent, executed}
 use Rattle.card.specs.Calls.{new_card}
-use Rattle.runs.specs.Moments.{moments, All, of_all, looks_at, executes_at, sends_at, Audited}
+use Rattle.runs.specs.Moments.{moments, AllOf, of_all, looks_at, executes_at, sends_at, Audited}
 use Rattle.runs.specs.Named.{Untouched}
 use Rattle.runs.specs.Places.{Place, content_of, holds, goes_to, some_to, none_to, Agree}
 use Rattle.runs.specs.Runs.{run}
@@ -44,7 +44,7 @@ pub record RunLaw (w end : World) (calls : List Call) (answers : List Answer) : 
   pub lasting : LastSent w end (sent (run new_card calls) w)
 
 pub record RunAudit (c : Card) (w : World) (calls : List Call) : Type 0 where
-  pub each : All Audited (moments c w calls)
+  pub each : AllOf Audited (moments c w calls)
   pub looks : looked (run c calls) w ≡ of_all looks_at (moments c w calls)
   pub executes : executed (run c calls) w ≡ of_all executes_at (moments c w calls)
   pub sends : sent (run c calls) w ≡ of_all sends_at (moments c w calls)

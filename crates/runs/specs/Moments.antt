@@ -15,7 +15,7 @@
 --   TriesRead, TriesStore, ProcessorTries   which words' verdicts are asked for: by reads and stores of the step in hand, by the processor's store
 --   OfSector           what is so of the sector in hand
 --   LooksIn, MayLook   what the call may look at
---   All, of_all        each element of a list is so; what the elements of a list give, in order
+--   AllOf, of_all      each element of a list is so; what the elements of a list give, in order
 --   looks_at           what the call looks at: the questions of its rule
 --   Audited            a call looks at nothing but what it may, and its rule executes and sends exactly this
 --   looked_in, executed_in, sent_in   what a run of calls from a start looks at, executes and sends, in order
@@ -243,9 +243,9 @@ MayLook m q = LooksIn (doing m.card m.next) m.next m.card m.world q
 
 -- the audit
 
-unfoldable pub All : {X : Type 0} → (X → Type 0) → List X → Type 0
-All P [] = Unit {0}
-All P (x ∷ xs) = P x × All P xs
+unfoldable pub AllOf : {X : Type 0} → (X → Type 0) → List X → Type 0
+AllOf P [] = Unit {0}
+AllOf P (x ∷ xs) = P x × AllOf P xs
 
 unfoldable pub of_all : {X Y : Type 0} → (X → List Y) → List X → List Y
 of_all f [] = []
@@ -255,7 +255,7 @@ abbrev pub looks_at : Moment → List Query
 looks_at m = looked (call m.card m.next) m.world
 
 pub record Audited (m : Moment) : Type 0 where
-  pub looks : All (MayLook m) (looks_at m)
+  pub looks : AllOf (MayLook m) (looks_at m)
   pub executes : executed (call m.card m.next) m.world ≡ executes_at m
   pub sends : sent (call m.card m.next) m.world ≡ sends_at m
 

@@ -1,10 +1,10 @@
 -- The words of a line, and the lines of a text.
---   begun    pieces, with a byte more before the first
---   pieces   what stands between the bytes c of a text, empty pieces too
---   filled   the pieces that are not empty
---   words    of a line: what stands between spaces
+--   begun        pieces, with a byte more before the first
+--   pieces       what stands between the bytes c of a text, empty pieces too
+--   filled       the pieces that are not empty
+--   words        of a line: what stands between spaces
 --   unreturned   a line without the carriage return at its end
---   lines    of a text: what stands between line feeds, without carriage returns at the ends
+--   lines        of a text: what stands between line feeds, without carriage returns at the ends
 use Rattle.std.specs.Prelude.{ℕ, cond, List, [], ◌∷◌, map, ◌==◌}
 
 abbrev pub begun : ℕ → List (List ℕ) → List (List ℕ)

@@ -2,12 +2,15 @@
 --   command_number, command_word, command_code   of a refused command: its number, 1 to 4, its word and its condition code
 --   exception_number, exception_word   of an exception: its number, 11 to 19, and its word
 --   layer_of, layer_word   where an exception comes from: the channel, the storage or the drive
---   told_of       what else it tells: the address of the word that failed, the sector, or zero
+--   detail_of     what else it tells: the address of the word that failed, the sector, or nothing
+--   detail_number   the address or the sector as a number
+--   told_of       what else it tells as a number, zero where it is nothing
 --   status_byte   the high byte of the interrupt ID word
 --   reasons       the bits that it adds to status word 1; those of no record found say whether a spoiled ID was passed
---   answer_number, answer_word   of any answer: the number and the word of its refusal or exception; zero and no word where the call went well
+--   number_of, word_of   of any answer: the number and the word of its refusal or exception; none where the call went well
+--   answer_number, answer_word   the same, with zero and the empty word where the call went well
 --   code_of       the condition code, where an answer has one
-use Rattle.std.specs.Prelude.{ℕ, Bool, cond, List, [], Some, None, codes, Option}
+use Rattle.std.specs.Prelude.{ℕ, Bool, cond, List, [], Some, None, codes, Option, option_map, unwrap_or}
 use Rattle.basics.specs.declared.fault.Fault.{Fault}
 use Rattle.basics.specs.declared.fault.Fault.TheVariants.{StorageDataCheck, InvalidAddress, ProtectCheck}
 use Rattle.basics.specs.Numbers.{fault_number, fault_word}
@@ -15,6 +18,8 @@ use Rattle.answers.specs.declared.answer.Answer.{Answer}
 use Rattle.answers.specs.declared.answer.Answer.TheVariants.{Accepted, CommandRefused, Done, StoreRefused, Interrupt, NothingWaits, Stepped, Ended, Idle}
 use Rattle.answers.specs.declared.answer.CommandRefusal.{CommandRefusal}
 use Rattle.answers.specs.declared.answer.CommandRefusal.TheVariants.{NotAttached, InterfaceDataCheck, Busy, CommandReject}
+use Rattle.answers.specs.declared.answer.Detail.{Detail}
+use Rattle.answers.specs.declared.answer.Detail.TheVariants.{Word, Sector}
 use Rattle.answers.specs.declared.answer.Layer.{Layer}
 use Rattle.answers.specs.declared.answer.Layer.TheVariants.{Channel, Storage as InStorage, Drive as InDrive}
 use Rattle.answers.specs.declared.answer.Exception.{Exception}
@@ -70,14 +75,21 @@ layer_word Channel = codes "channel"
 layer_word InStorage = codes "storage"
 layer_word InDrive = codes "drive"
 
+abbrev pub detail_of : Exception → Option Detail
+detail_of SpecificationCheck = None
+detail_of (Storage f a) = Some (Word a)
+detail_of (NoRecordFound s) = Some (Sector s)
+detail_of (FileDataCheck s) = Some (Sector s)
+detail_of (EndOfTrack s) = Some (Sector s)
+detail_of SeekCheck = None
+detail_of NotReady = None
+
+abbrev pub detail_number : Detail → ℕ
+detail_number (Word a) = a
+detail_number (Sector s) = s
+
 abbrev pub told_of : Exception → ℕ
-told_of SpecificationCheck = 0
-told_of (Storage f a) = a
-told_of (NoRecordFound s) = s
-told_of (FileDataCheck s) = s
-told_of (EndOfTrack s) = s
-told_of SeekCheck = 0
-told_of NotReady = 0
+told_of e = unwrap_or (option_map detail_number (detail_of e)) 0
 
 abbrev pub fault_byte : Fault → ℕ
 fault_byte StorageDataCheck = 0x08
@@ -102,27 +114,33 @@ reasons spoiled (EndOfTrack s) = 0x8000
 reasons spoiled SeekCheck = 0x0040
 reasons spoiled NotReady = 0x0001
 
+abbrev pub number_of : Answer → Option ℕ
+number_of (Accepted w) = None
+number_of (CommandRefused r) = Some (command_number r)
+number_of Done = None
+number_of (StoreRefused f) = Some (fault_number f)
+number_of (Interrupt w) = None
+number_of NothingWaits = Some 6
+number_of Stepped = None
+number_of (Ended e b) = Some (exception_number e)
+number_of Idle = Some 5
+
 abbrev pub answer_number : Answer → ℕ
-answer_number (Accepted w) = 0
-answer_number (CommandRefused r) = command_number r
-answer_number Done = 0
-answer_number (StoreRefused f) = fault_number f
-answer_number (Interrupt w) = 0
-answer_number NothingWaits = 6
-answer_number Stepped = 0
-answer_number (Ended e b) = exception_number e
-answer_number Idle = 5
+answer_number a = unwrap_or (number_of a) 0
+
+abbrev pub word_of : Answer → Option (List ℕ)
+word_of (Accepted w) = None
+word_of (CommandRefused r) = Some (command_word r)
+word_of Done = None
+word_of (StoreRefused f) = Some (fault_word f)
+word_of (Interrupt w) = None
+word_of NothingWaits = Some (codes "nothing waits")
+word_of Stepped = None
+word_of (Ended e b) = Some (exception_word e)
+word_of Idle = Some (codes "idle")
 
 abbrev pub answer_word : Answer → List ℕ
-answer_word (Accepted w) = []
-answer_word (CommandRefused r) = command_word r
-answer_word Done = []
-answer_word (StoreRefused f) = fault_word f
-answer_word (Interrupt w) = []
-answer_word NothingWaits = codes "nothing waits"
-answer_word Stepped = []
-answer_word (Ended e b) = exception_word e
-answer_word Idle = codes "idle"
+answer_word a = unwrap_or (word_of a) []
 
 -- commands and service answer a condition code; that of an accepted command is 7
 abbrev pub code_of : Answer → Option ℕ

@@ -1,12 +1,14 @@
 // What the six calls answer.
-ghost use Rattle.std.specs.Prelude.{◌≡◌};
-ghost use Rattle.answers.specs.Exceptions.{command_number, command_word, command_code, exception_number, exception_word, layer_of, layer_word, told_of, fault_byte, status_byte, reasons, answer_number, answer_word, code_of};
+ghost use Rattle.std.specs.Prelude.{◌≡◌, Some, [], unwrap_or, option_map};
+ghost use Rattle.std.specs.Option.{option_copied};
+ghost use Rattle.answers.specs.Exceptions.{command_number, command_word, command_code, exception_number, exception_word, layer_of, layer_word, detail_of, told_of, detail_number, status_byte, reasons, number_of, answer_number, word_of, answer_word, code_of};
 
 use crate::waiting::Waiting;
 use basics::fault::Fault;
+use std::fmt;
 
 // Why a command is refused.
-#[derive(Clone, Copy)]
+#[derive(Clone, Copy, PartialEq, Eq, Debug)]
 pub enum CommandRefusal {
     NotAttached,
     InterfaceDataCheck,
@@ -50,8 +52,17 @@ impl CommandRefusal {
     }
 }
 
+// Written as its word.
+impl fmt::Display for CommandRefusal {
+    ghost output = { λ x. Some (command_word x) };
+
+    fn fmt<W: fmt::Write>(&self, f: &mut fmt::Formatter<W>) -> fmt::Result {
+        f.write_str(self.word())
+    }
+}
+
 // Where an exception comes from.
-#[derive(Clone, Copy)]
+#[derive(Clone, Copy, PartialEq, Eq, Debug)]
 pub enum Layer {
     Channel,
     Storage,
@@ -70,8 +81,25 @@ impl Layer {
     }
 }
 
+// Written as its word.
+impl fmt::Display for Layer {
+    ghost output = { λ x. Some (layer_word x) };
+
+    fn fmt<W: fmt::Write>(&self, f: &mut fmt::Formatter<W>) -> fmt::Result {
+        f.write_str(self.word())
+    }
+}
+
+// What an exception tells beside its kind.
+#[derive(Clone, Copy, PartialEq, Eq, Debug)]
+pub enum Detail {
+    // the address of the word that failed
+    Word(u32),
+    Sector(u8),
+}
+
 // What ends a chain: its kind, with what it tells.
-#[derive(Clone, Copy)]
+#[derive(Clone, Copy, PartialEq, Eq, Debug)]
 pub enum Exception {
     SpecificationCheck,
     // the address of the word that failed, which may lie past the storage
@@ -83,27 +111,16 @@ pub enum Exception {
     NotReady,
 }
 
-// the status byte of a storage fault
-fn fault_byte(fault: Fault) -> u16
-    ensures { result ≡ fault_byte fault }
-{
-    match fault {
-        Fault::StorageDataCheck => 0x08,
-        Fault::InvalidAddress => 0x04,
-        Fault::ProtectCheck => 0x02,
-    }
-}
-
 impl Exception {
     pub fn number(self) -> u8
         ensures { result ≡ exception_number self }
     {
         match self {
             Exception::SpecificationCheck => 11,
-            Exception::Storage { fault, address: _ } => fault.number(),
-            Exception::NoRecordFound { sector: _ } => 15,
-            Exception::FileDataCheck { sector: _ } => 16,
-            Exception::EndOfTrack { sector: _ } => 17,
+            Exception::Storage { fault, .. } => fault.number(),
+            Exception::NoRecordFound { .. } => 15,
+            Exception::FileDataCheck { .. } => 16,
+            Exception::EndOfTrack { .. } => 17,
             Exception::SeekCheck => 18,
             Exception::NotReady => 19,
         }
@@ -114,10 +131,10 @@ impl Exception {
     {
         match self {
             Exception::SpecificationCheck => "specification check",
-            Exception::Storage { fault, address: _ } => fault.word(),
-            Exception::NoRecordFound { sector: _ } => "no record found",
-            Exception::FileDataCheck { sector: _ } => "file data check",
-            Exception::EndOfTrack { sector: _ } => "end of track",
+            Exception::Storage { fault, .. } => fault.word(),
+            Exception::NoRecordFound { .. } => "no record found",
+            Exception::FileDataCheck { .. } => "file data check",
+            Exception::EndOfTrack { .. } => "end of track",
             Exception::SeekCheck => "seek check",
             Exception::NotReady => "not ready",
         }
@@ -128,41 +145,45 @@ impl Exception {
     {
         match self {
             Exception::SpecificationCheck => Layer::Channel,
-            Exception::Storage {
-                fault: _,
-                address: _,
-            } => Layer::Storage,
-            Exception::NoRecordFound { sector: _ } => Layer::Drive,
-            Exception::FileDataCheck { sector: _ } => Layer::Drive,
-            Exception::EndOfTrack { sector: _ } => Layer::Drive,
-            Exception::SeekCheck | Exception::NotReady => Layer::Drive,
+            Exception::Storage { .. } => Layer::Storage,
+            Exception::NoRecordFound { .. }
+            | Exception::FileDataCheck { .. }
+            | Exception::EndOfTrack { .. }
+            | Exception::SeekCheck
+            | Exception::NotReady => Layer::Drive,
         }
     }
 
-    // what else is told: the address of the word that failed, the sector, or zero
-    pub fn told(self) -> u32
-        ensures { result ≡ told_of self }
+    // what else is told
+    pub fn told(self) -> Option<Detail>
+        ensures detail { result ≡ detail_of self }
+        ensures number { unwrap_or (option_map detail_number result) 0 ≡ told_of self }
     {
         match self {
-            Exception::Storage { fault: _, address } => address,
-            Exception::NoRecordFound { sector } => sector as u32,
-            Exception::FileDataCheck { sector } => sector as u32,
-            Exception::EndOfTrack { sector } => sector as u32,
-            Exception::SpecificationCheck | Exception::SeekCheck | Exception::NotReady => 0,
+            Exception::Storage { address, .. } => Some(Detail::Word(address)),
+            Exception::NoRecordFound { sector }
+            | Exception::FileDataCheck { sector }
+            | Exception::EndOfTrack { sector } => Some(Detail::Sector(sector)),
+            Exception::SpecificationCheck | Exception::SeekCheck | Exception::NotReady => None,
         }
     }
 
     // the high byte of the interrupt ID word
-    pub fn status_byte(self) -> u16
+    pub fn status_byte(self) -> u8
         ensures { result ≡ status_byte self }
     {
         match self {
             Exception::SpecificationCheck => 0x10,
-            Exception::Storage { fault, address: _ } => fault_byte(fault),
-            Exception::NoRecordFound { sector: _ } => 0x80,
-            Exception::FileDataCheck { sector: _ } => 0x80,
-            Exception::EndOfTrack { sector: _ } => 0x80,
-            Exception::SeekCheck | Exception::NotReady => 0x80,
+            Exception::Storage { fault, .. } => match fault {
+                Fault::StorageDataCheck => 0x08,
+                Fault::InvalidAddress => 0x04,
+                Fault::ProtectCheck => 0x02,
+            },
+            Exception::NoRecordFound { .. }
+            | Exception::FileDataCheck { .. }
+            | Exception::EndOfTrack { .. }
+            | Exception::SeekCheck
+            | Exception::NotReady => 0x80,
         }
     }
 
@@ -171,24 +192,27 @@ impl Exception {
         ensures { result ≡ reasons passed_spoiled self }
     {
         match self {
-            Exception::SpecificationCheck => 0,
-            Exception::Storage {
-                fault: _,
-                address: _,
-            } => 0,
-            Exception::NoRecordFound { sector: _ } => {
-                if passed_spoiled { 0x1080 } else { 0x1000 }
-            }
-            Exception::FileDataCheck { sector: _ } => 0x0080,
-            Exception::EndOfTrack { sector: _ } => 0x8000,
+            Exception::SpecificationCheck | Exception::Storage { .. } => 0,
+            Exception::NoRecordFound { .. } => if passed_spoiled { 0x1080 } else { 0x1000 },
+            Exception::FileDataCheck { .. } => 0x0080,
+            Exception::EndOfTrack { .. } => 0x8000,
             Exception::SeekCheck => 0x0040,
             Exception::NotReady => 0x0001,
         }
     }
 }
 
+// Written as its word.
+impl fmt::Display for Exception {
+    ghost output = { λ x. Some (exception_word x) };
+
+    fn fmt<W: fmt::Write>(&self, f: &mut fmt::Formatter<W>) -> fmt::Result {
+        f.write_str(self.word())
+    }
+}
+
 // All that a call returns.
-#[derive(Clone, Copy)]
+#[derive(Clone, Copy, PartialEq, Eq, Debug)]
 pub enum Answer {
     // an accepted command answers code 7 and a word
     Accepted { word: u16 },
@@ -206,41 +230,35 @@ pub enum Answer {
 }
 
 impl Answer {
-    // the number of the refusal or exception; zero where the call went well
-    pub fn number(self) -> u8
-        ensures { result ≡ answer_number self }
+    // the number of the refusal or exception; none where the call went well
+    pub fn number(self) -> Option<u8>
+        ensures value { result ≡ number_of self }
+        ensures zero_for_none { unwrap_or result 0 ≡ answer_number self }
     {
         match self {
-            Answer::CommandRefused { refusal } => refusal.number(),
-            Answer::StoreRefused { fault } => fault.number(),
-            Answer::NothingWaits => 6,
-            Answer::Ended {
-                exception,
-                block: _,
-            } => exception.number(),
-            Answer::Idle => 5,
-            Answer::Accepted { word: _ } => 0,
-            Answer::Interrupt { waiting: _ } => 0,
-            Answer::Done | Answer::Stepped => 0,
+            Answer::CommandRefused { refusal } => Some(refusal.number()),
+            Answer::StoreRefused { fault } => Some(fault.number()),
+            Answer::NothingWaits => Some(6),
+            Answer::Ended { exception, .. } => Some(exception.number()),
+            Answer::Idle => Some(5),
+            Answer::Accepted { .. } | Answer::Interrupt { .. } | Answer::Done | Answer::Stepped =>
+                None,
         }
     }
 
     // its word; none where the call went well
-    pub fn word(self) -> &'static str
-        ensures { result.now ≡ answer_word self }
+    pub fn word(self) -> Option<&'static str>
+        ensures value { option_copied result ≡ word_of self }
+        ensures empty_for_none { unwrap_or (option_copied result) [] ≡ answer_word self }
     {
         match self {
-            Answer::CommandRefused { refusal } => refusal.word(),
-            Answer::StoreRefused { fault } => fault.word(),
-            Answer::NothingWaits => "nothing waits",
-            Answer::Ended {
-                exception,
-                block: _,
-            } => exception.word(),
-            Answer::Idle => "idle",
-            Answer::Accepted { word: _ } => "",
-            Answer::Interrupt { waiting: _ } => "",
-            Answer::Done | Answer::Stepped => "",
+            Answer::CommandRefused { refusal } => Some(refusal.word()),
+            Answer::StoreRefused { fault } => Some(fault.word()),
+            Answer::NothingWaits => Some("nothing waits"),
+            Answer::Ended { exception, .. } => Some(exception.word()),
+            Answer::Idle => Some("idle"),
+            Answer::Accepted { .. } | Answer::Interrupt { .. } | Answer::Done | Answer::Stepped =>
+                None,
         }
     }
 
@@ -249,14 +267,10 @@ impl Answer {
         ensures { result ≡ code_of self }
     {
         match self {
-            Answer::Accepted { word: _ } => Some(7),
+            Answer::Accepted { .. } => Some(7),
             Answer::CommandRefused { refusal } => Some(refusal.code()),
             Answer::Interrupt { waiting } => Some(waiting.code),
-            Answer::StoreRefused { fault: _ } => None,
-            Answer::Ended {
-                exception: _,
-                block: _,
-            } => None,
+            Answer::StoreRefused { .. } | Answer::Ended { .. } => None,
             Answer::Done | Answer::Stepped | Answer::NothingWaits | Answer::Idle => None,
         }
     }

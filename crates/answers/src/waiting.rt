@@ -1,6 +1,6 @@
 // An interrupt that waits for service.
 
-#[derive(Clone, Copy)]
+#[derive(Clone, Copy, PartialEq, Eq, Debug)]
 pub struct Waiting {
     // the condition code
     pub code: u8,

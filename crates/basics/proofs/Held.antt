@@ -1,63 +1,18 @@
 -- Laws of the marks that a table holds. Assumes nothing.
-use Rattle.std.proofs.Common.{◌≡◌, ℕ, ◌+◌, ◌<◌, ◌≤◌, Bool, true, false, cond, not, ◌&&◌, ◌||◌, ltb, List, [], ◌∷◌, ◌++◌, length, get_or, drop, set, Ok, Decides, sym, refl, ap, ◌∙◌}
-use Rattle.std.proofs.lemmas.List.Filters.{FiltersInPlace, FiltersInPlace-more_set}
-use Rattle.std.proofs.lemmas.List.{at_drop_more, at_drop_all, get_or_default}
-use Rattle.std.proofs.lemmas.Bool.{cond-true, cond-false, lt-ltb, or_parts, not_from_true, not_from_false, and_right}
-use Rattle.basics.specs.Marks.{has, without, entered, entering}
+use Rattle.std.proofs.Common.{◌≡◌, Bool, false, not, ◌&&◌, List, [], ◌∷◌, Decides, refl, ap, ◌∙◌}
+use Rattle.std.proofs.lemmas.Bool.{cond-true, or_parts, not_from_false}
+use Rattle.std.proofs.lemmas.Map.Views.{any-filter_same}
+use Rattle.basics.specs.Marks.{has, without}
 
-module _ {T : Type 0} (alike : T → T → Bool) (x : T) (ys : List T) (i : ℕ) where
-  -- one mark further along the list
-  pub has_more : (y : T) (b : Bool) → i < length ys → y ≡ get_or ys i y → b ≡ alike y x → has alike x (drop i ys) ≡ (b || has alike x (drop (i + 1) ys))
-  has_more y b within read test =
-      at_drop_more (has alike x) ys i y within
-      ∙ ap (λ (z : T). alike z x || has alike x (drop (i + 1) ys)) (sym read)
-      ∙ ap (λ (t : Bool). t || has alike x (drop (i + 1) ys)) (sym test)
+module _ {T : Type 0} (alike : T → T → Bool) where
+  -- taking out a mark that is not there
+  pub without_none : (x : T) (ys : List T) → has alike x ys ≡ false → without alike x ys ≡ ys
+  without_none x [] none = refl
+  without_none x (y ∷ ys) none =
+      let parts = or_parts (alike y x) (has alike x ys) none in
+      cond-true (not (alike y x)) _ _ (not_from_false (alike y x) parts.0) ∙ ap (λ (l : List _). y ∷ l) (without_none x ys parts.1)
 
-  -- at the end of the list
-  pub has_all : length ys ≤ i → has alike x (drop i ys) ≡ false
-  has_all past = at_drop_all (has alike x) ys i past
-
-module _ {T : Type 0} (alike : T → T → Bool) (n : ℕ) (x : T) (ys : List T) (new : false ≡ has alike x ys) (free : length ys < n) where
-  -- a new mark where an entry is free
-  pub entering_new : Ok tt ≡ entering alike n x ys
-  entering_new = sym (cond-false (has alike x ys) _ _ (sym new) ∙ cond-true (ltb (length ys) n) _ _ (lt-ltb (length ys) n free))
-
-  pub entered_new : ys ++ x ∷ [] ≡ entered alike n x ys
-  entered_new = sym (cond-false (has alike x ys) _ _ (sym new) ∙ cond-true (ltb (length ys) n) _ _ (lt-ltb (length ys) n free))
-
--- a mark that stays is moved down, read at any default
-pub keeping_moved : {T : Type 0} (p : T → Bool) (xs ys : List T) (k i : ℕ) (d : T) → FiltersInPlace p xs ys k i → i < length ys → p (get_or ys i d) ≡ true → FiltersInPlace p xs (set ys k (get_or ys i d)) (k + 1) (i + 1)
-keeping_moved p xs ys k i d kept within pass =
-    FiltersInPlace-more_set {x = get_or ys i d} kept within pass (get_or_default ys i d (get_or ys i d) within)
-
--- taking out a mark that is not there
-pub without_none : {T : Type 0} (alike : T → T → Bool) (x : T) (ys : List T) → has alike x ys ≡ false → without alike x ys ≡ ys
-without_none alike x [] none = refl
-without_none alike x (y ∷ ys) none =
-    let parts = or_parts (alike y x) (has alike x ys) none in
-    cond-true (not (alike y x)) _ _ (not_from_false (alike y x) parts.0) ∙ ap (λ (l : List _). y ∷ l) (without_none alike x ys parts.1)
-
--- what is still there after a mark was taken out
-module _ {T : Type 0} (alike : T → T → Bool) (decides : (x y : T) → Decides (alike x y) (x ≡ y)) (x y : T) where
-  apart : (z : T) → alike z x ≡ true → alike z y ≡ alike x y
-  apart z e = ap (λ (w : T). alike w y) ((decides z x).0 e)
-
-  and_not_true : (a b : Bool) → b ≡ true → (a && not b) ≡ false
-  and_not_true a b e = and_right a (not b) (not_from_true b e)
-
-  step : (zx zy xy h : Bool) → (zx ≡ true → zy ≡ xy) → cond (not zy) (zx || (h && not xy)) (h && not xy) ≡ ((zx || h) && not xy)
-  step true true xy h e = and_not_true h xy (sym (e refl)) ∙ sym (not_from_true xy (sym (e refl)))
-  step true false xy h e = ap not (e refl)
-  step false true xy h e = refl
-  step false false xy h e = refl
-
-  pub has_without : (ys : List T) → has alike x (without alike y ys) ≡ (has alike x ys && not (alike x y))
-  has_without [] = refl
-  has_without (z ∷ ys) =
-      has_cond (not (alike z y)) z (without alike y ys)
-      ∙ ap (λ (h : Bool). cond (not (alike z y)) (alike z x || h) h) (has_without ys)
-      ∙ step (alike z x) (alike z y) (alike x y) (has alike x ys) (apart z)
-    where
-      has_cond : (b : Bool) (w : T) (l : List T) → has alike x (cond b (w ∷ l) l) ≡ cond b (alike w x || has alike x l) (has alike x l)
-      has_cond true w l = refl
-      has_cond false w l = refl
+  -- what is still there after a mark was taken out
+  pub has_without : (decides : (x y : T) → Decides (alike x y) (x ≡ y)) (x y : T) (ys : List T) → has alike x (without alike y ys) ≡ (not (alike x y) && has alike x ys)
+  has_without decides x y ys =
+      any-filter_same (λ z. alike z x) (λ z. not (alike z y)) (not (alike x y)) (λ z is. ap (λ (w : T). not (alike w y)) ((decides z x).0 is)) ys

@@ -3,14 +3,15 @@
 --   without    the list with a mark taken out
 --   entered    the marks after one was to be entered: as before if it is there or no entry is free, else one more, the newest
 --   entering   what the table answers to that
-use Rattle.std.specs.Prelude.{ℕ, Bool, false, cond, not, ◌||◌, List, [], ◌∷◌, ◌++◌, length, Ok, Err, filter, Result, nat_lt}
+--   where_there   an answer, where the mark falls on something that is there
+use Rattle.std.specs.Prelude.{ℕ, Bool, cond, not, List, [], ◌∷◌, ◌++◌, length, Ok, Err, filter, Result, nat_lt}
+use Rattle.std.specs.List.{list_any}
 use Rattle.basics.specs.declared.refusal.Refusal.{Refusal}
-use Rattle.basics.specs.declared.refusal.Refusal.TheVariants.{MarksFull}
+use Rattle.basics.specs.declared.refusal.Refusal.TheVariants.{NoSuchPlace, MarksFull}
 
 module _ {T : Type 0} (alike : T → T → Bool) where
   abbrev pub has : T → List T → Bool
-  has x [] = false
-  has x (y ∷ ys) = alike y x || has x ys
+  has x ys = list_any (λ y. alike y x) ys
 
   abbrev pub without : T → List T → List T
   without x ys = filter (λ y. not (alike y x)) ys
@@ -21,3 +22,6 @@ module _ {T : Type 0} (alike : T → T → Bool) where
 
   abbrev pub entering : ℕ → T → List T → Result (Unit {0}) Refusal
   entering n x ys = cond (has x ys) (Ok tt) (cond (nat_lt (length ys) n) (Ok tt) (Err MarksFull))
+
+abbrev pub where_there : Bool → Result (Unit {0}) Refusal → Result (Unit {0}) Refusal
+where_there there answer = cond there answer (Err NoSuchPlace)

@@ -7,22 +7,18 @@ use std::fmt;
 #[derive(Clone, Copy, PartialEq, Eq, Debug)]
 pub enum Fault {
     // the word read has bad parity
-    StorageDataCheck,
+    StorageDataCheck = 12,
     // an odd address, or one past the storage
-    InvalidAddress,
+    InvalidAddress = 13,
     // the key does not open the block
-    ProtectCheck,
+    ProtectCheck = 14,
 }
 
 impl Fault {
     pub fn number(self) -> u8
         ensures { result ≡ fault_number self }
     {
-        match self {
-            Fault::StorageDataCheck => 12,
-            Fault::InvalidAddress => 13,
-            Fault::ProtectCheck => 14,
-        }
+        self as u8
     }
 
     pub fn word(self) -> &'static str

@@ -7,34 +7,26 @@ use std::fmt;
 #[derive(Clone, Copy, PartialEq, Eq, Debug)]
 pub enum Refusal {
     // a pack or a storage of no lawful size, keys that are not one a block, or more records than there is room for
-    Length,
+    Length = 21,
     // the text, the heads or a zero byte of a pack
-    Header,
+    Header = 22,
     // a track, a place or a condition out of range
-    Record,
+    Record = 24,
     // a bad index, a loop, a wrong chain or a record left over
-    Chain,
+    Chain = 25,
     // one place recorded twice
-    Double,
+    Double = 26,
     // off the drive, at a spoiled ID, or no word of the storage
-    NoSuchPlace,
+    NoSuchPlace = 28,
     // no free entry in a table of marks
-    MarksFull,
+    MarksFull = 29,
 }
 
 impl Refusal {
     pub fn number(self) -> u8
         ensures { result ≡ refusal_number self }
     {
-        match self {
-            Refusal::Length => 21,
-            Refusal::Header => 22,
-            Refusal::Record => 24,
-            Refusal::Chain => 25,
-            Refusal::Double => 26,
-            Refusal::NoSuchPlace => 28,
-            Refusal::MarksFull => 29,
-        }
+        self as u8
     }
 
     pub fn word(self) -> &'static str

@@ -1,4 +1,5 @@
 pub mod Transfers
+pub mod Spares
+pub mod Parts
 pub mod Stepping
 pub mod SectorBytes
-pub mod Spares

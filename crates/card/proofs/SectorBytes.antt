@@ -1,6 +1,6 @@
 -- The bytes of words, place by place. Assumes nothing.
 use Rattle.std.proofs.Common.{◌≡◌, ℕ, zero, suc, ◌+◌, ◌-◌, ◌*◌, ◌/◌, ◌%◌, ◌<◌, ◌≤◌, List, [], ◌∷◌, ◌++◌, length, get_or, take, drop, set, replicate, sym, refl, ap, ◌∙◌, ⊎_elim, not-suc-le-zero, arith}
-use Rattle.std.proofs.lemmas.List.{length-set, get_or-set_same, get_or-set_other, ext_get_or, take-replicate, take-append-drop, drop-replicate, length-take-le}
+use Rattle.std.proofs.lemmas.List.{length-set, get_or-set_same, get_or-set_other, ext_get_or, take-replicate, drop-replicate}
 use Rattle.std.proofs.lemmas.Bool.{cases_eq}
 use Rattle.card.specs.Acts.{bytes_of, padded}
 
@@ -30,20 +30,20 @@ low_byte (w ∷ ws) (suc i) within =
     twice = omega arith
 
 -- one word more is written out
-module _ (ws b : List ℕ) (i : ℕ) (long : length b ≡ 256) (within : i < length ws) (small : i < 128) where
+module _ (ws b : List ℕ) (i h l : ℕ) (long : length b ≡ 256) (within : i < length ws) (small : i < 128) (high : h ≡ get_or ws i 0 / 256) (low : l ≡ get_or ws i 0 % 256) where
   pub bytes_more : ((k : ℕ) → k < 2 * i → get_or b k 0 ≡ get_or (bytes_of ws) k 0)
-      → (k : ℕ) → k < 2 * (i + 1) → get_or (set (set b (2 * i) (get_or ws i 0 / 256)) (2 * i + 1) (get_or ws i 0 % 256)) k 0 ≡ get_or (bytes_of ws) k 0
-  bytes_more below k h =
-      let b' = set b (2 * i) (get_or ws i 0 / 256) in
-      let long' : 2 * i + 1 < length b' = rw (length-set b (2 * i) (get_or ws i 0 / 256)) (omega arith) in
+      → (k : ℕ) → k < 2 * (i + 1) → get_or (set (set b (2 * i) h) (2 * i + 1) l) k 0 ≡ get_or (bytes_of ws) k 0
+  bytes_more below k before =
+      let b' = set b (2 * i) h in
+      let long' : 2 * i + 1 < length b' = rw (length-set b (2 * i) h) (omega arith) in
       ⊎_elim
-      (λ low. ap (λ (j : ℕ). get_or (set b' (2 * i + 1) (get_or ws i 0 % 256)) j 0) low
-      ∙ get_or-set_same b' (2 * i + 1) (get_or ws i 0 % 256) 0 long' ∙ sym (low_byte ws i within) ∙ ap (λ (j : ℕ). get_or (bytes_of ws) j 0) (sym low))
-      (λ other. get_or-set_other b' (2 * i + 1) k (get_or ws i 0 % 256) 0 other
+      (λ at. ap (λ (j : ℕ). get_or (set b' (2 * i + 1) l) j 0) at
+      ∙ get_or-set_same b' (2 * i + 1) l 0 long' ∙ low ∙ sym (low_byte ws i within) ∙ ap (λ (j : ℕ). get_or (bytes_of ws) j 0) (sym at))
+      (λ other. get_or-set_other b' (2 * i + 1) k l 0 other
       ∙ ⊎_elim
-      (λ high. ap (λ (j : ℕ). get_or b' j 0) high ∙ get_or-set_same b (2 * i) (get_or ws i 0 / 256) 0 (omega arith)
-      ∙ sym (high_byte ws i within) ∙ ap (λ (j : ℕ). get_or (bytes_of ws) j 0) (sym high))
-      (λ before. get_or-set_other b (2 * i) k (get_or ws i 0 / 256) 0 before ∙ below k (omega arith))
+      (λ at. ap (λ (j : ℕ). get_or b' j 0) at ∙ get_or-set_same b (2 * i) h 0 (omega arith)
+      ∙ high ∙ sym (high_byte ws i within) ∙ ap (λ (j : ℕ). get_or (bytes_of ws) j 0) (sym at))
+      (λ apart. get_or-set_other b (2 * i) k h 0 apart ∙ below k (omega arith))
       (cases_eq k (2 * i)))
       (cases_eq k (2 * i + 1))
 
@@ -74,7 +74,7 @@ bytes_zeros (suc n) = ap (λ (l : List ℕ). 0 ∷ 0 ∷ l) (bytes_zeros n) ∙ 
   twice : suc (suc (2 * n)) ≡ 2 * suc n
   twice = omega arith
 
-pub padded_is : (xs : List ℕ) (n : ℕ) → length xs ≡ n → n ≤ 128 → bytes_of (xs ++ replicate (128 - n) 0) ≡ padded (bytes_of xs)
+padded_is : (xs : List ℕ) (n : ℕ) → length xs ≡ n → n ≤ 128 → bytes_of (xs ++ replicate (128 - n) 0) ≡ padded (bytes_of xs)
 unfolding padded
 padded_is xs n long small =
     let bytes = bytes_of xs in
@@ -91,7 +91,5 @@ padded_is xs n long small =
         ∙ ap (λ (l : List ℕ). b ++ l) (take-replicate (256 - m) 256 0 rest)
 
 -- a buffer of zeros whose first n words were filled in
-pub filled_is : (ws : List ℕ) (n : ℕ) → length ws ≡ 128 → n ≤ 128 → drop n ws ≡ drop n (replicate 128 0) → bytes_of ws ≡ padded (bytes_of (take n ws))
-filled_is ws n long small zeros =
-    ap bytes_of (sym (take-append-drop n ws) ∙ ap (λ (l : List ℕ). take n ws ++ l) (zeros ∙ drop-replicate n 128 0))
-    ∙ padded_is (take n ws) n (length-take-le n ws (omega arith)) small
+pub filled_is : (xs : List ℕ) (n : ℕ) → length xs ≡ n → n ≤ 128 → bytes_of (xs ++ drop n (replicate 128 0)) ≡ padded (bytes_of xs)
+filled_is xs n long small = ap (λ (l : List ℕ). bytes_of (xs ++ l)) (drop-replicate n 128 0) ∙ padded_is xs n long small

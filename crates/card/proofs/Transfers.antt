@@ -1,11 +1,11 @@
 -- How a transfer of words goes on, word by word. Assumes nothing.
-use Rattle.std.proofs.Common.{◌≡◌, ℕ, zero, suc, ◌+◌, ◌-◌, ◌*◌, ◌%◌, ◌<◌, ◌≤◌, List, [], ◌∷◌, ◌++◌, length, get_or, take, drop, set, Ok, Err, sym, refl, ap, ◌∙◌, ap₂, append_assoc, not-suc-le-zero, arith}
-use Rattle.std.proofs.lemmas.List.{take_more_set, append-nil, drop_more, drop_all, length-take, get_or-take}
+use Rattle.std.proofs.Common.{◌≡◌, ℕ, suc, ◌+◌, ◌-◌, ◌*◌, ◌%◌, ◌<◌, ◌≤◌, List, [], ◌∷◌, ◌++◌, length, get_or, take, drop, set, Ok, Err, sym, refl, ap, ◌∙◌, ap₂, append_assoc, arith}
+use Rattle.std.proofs.lemmas.List.{take_all, take_more_set, append-nil, drop_more, drop_all}
 use Rattle.basics.specs.declared.fault.Fault.{Fault}
 use Rattle.storage.specs.Memory.{Verdict, Memory, loaded, allowed, with_word, where_allowed, stored}
 use Rattle.drive.specs.Disk.{Disk}
 use Rattle.card.specs.Acts.{Act, done, ask, send, execute, word_at, to_word, World, Ended, answer, put, ends, ended, world, then}
-use Rattle.card.specs.Words.{Moved, Fetched, fetch_words, store_words, words_of, residual_of, well, stopped_at}
+use Rattle.card.specs.Words.{Moved, Fetched, fetch_words, store_words, residual_of, well, stopped_at}
 
 pub ends-then : {A B : Type 0} (a : Act A) (f : A → Act B) (w : World) → ends (then a f) w ≡ ends (f (ends a w).result) (ends a w).world
 ends-then (done x) f w = refl
@@ -52,14 +52,6 @@ pub record Fetching (w : World) (n a k from : ℕ) (ws : List ℕ) (i r : ℕ) :
   pub so_far : ends (fetch_words n a k from) w ≡ fronted (take i ws) (ends (fetch_words (n - i) (a + 2 * i) k r) w)
 
 module _ (w : World) (n a k from : ℕ) (ws : List ℕ) where
-  pub fetching_none : Fetching w n a k from ws 0 from
-  fetching_none = record { so_far = ap₂ (λ (m b : ℕ). ends (fetch_words m b k from) w) first second } where
-    first : n ≡ n - 0
-    first = omega arith
-
-    second : a ≡ a + 2 * 0
-    second = omega arith
-
   module _ (i r : ℕ) (f : Fetching w n a k from ws i r) (within : i < n) where
     next : n - i ≡ suc (n - (i + 1))
     next = omega arith
@@ -90,26 +82,12 @@ module _ (w : World) (n a k from : ℕ) (ws : List ℕ) where
         let all = here ∙ ap (fronted (take i ws)) (fetch_err w (n - (i + 1)) (a + 2 * i) k r g e) in
         (ap (λ (x : Ended Fetched). x.result.moved) all, ap (λ (x : Ended Fetched). x.world) all)
 
-  pub fetching_all : (i r : ℕ) → Fetching w n a k from ws i r → i ≡ n → ends (fetch_words n a k from) w ≡ ended record { words = take n ws; moved = well r } w
+  pub fetching_all : (i r : ℕ) → Fetching w n a k from ws i r → i ≡ n → length ws ≡ n → ends (fetch_words n a k from) w ≡ ended record { words = ws; moved = well r } w
   unfolding fetch_words
-  fetching_all i r f end =
+  fetching_all i r f end long =
       let none : n - i ≡ 0 = omega arith in
       f.so_far ∙ ap (λ (m : ℕ). fronted (take i ws) (ends (fetch_words m (a + 2 * i) k r) w)) none
-      ∙ ap (λ (l : List ℕ). ended record { words = l; moved = well r } w) (append-nil (take i ws) ∙ ap (λ (m : ℕ). take m ws) end)
-
--- word i of some bytes
-pub word_of : (b : List ℕ) (i : ℕ) → 2 * i + 1 < length b → (i < length (words_of b)) × ((z : ℕ) → get_or (words_of b) i z ≡ get_or b (2 * i) 0 * 256 + get_or b (2 * i + 1) 0)
-unfolding words_of
-word_of [] i within = absurd (not-suc-le-zero within)
-word_of (h ∷ []) i within = absurd (omega arith)
-word_of (h ∷ l ∷ b) zero within = (omega arith, λ z. refl)
-word_of (h ∷ l ∷ b) (suc i) within =
-    let rest = word_of b i (omega arith) in
-    let p = rest.0 in
-    (omega arith, λ z. rest.1 z ∙ ap₂ (λ (x y : ℕ). x * 256 + y) (at_pair (2 * i) (2 * suc i) (omega arith)) (at_pair (2 * i + 1) (2 * suc i + 1) (omega arith)))
-  where
-    at_pair : (j k : ℕ) → suc (suc j) ≡ k → get_or b j 0 ≡ get_or (h ∷ l ∷ b) k 0
-    at_pair j k e = ap (λ (n : ℕ). get_or (h ∷ l ∷ b) n 0) e
+      ∙ ap (λ (l : List ℕ). ended record { words = l; moved = well r } w) (append-nil (take i ws) ∙ take_all i ws (omega arith))
 
 module _ (w : World) (a k r x : ℕ) (xs : List ℕ) where
   pub store_ok : (u : Unit {0}) → Ok u ≡ w.memory.stores a (k % 8) → ends (store_words (x ∷ xs) a k r) w ≡ ends (store_words xs (a + 2) k (residual_of a)) (put (to_word a x) w)
@@ -131,11 +109,6 @@ pub record Storing (ws : List ℕ) (a k from : ℕ) (w w' : World) (i r : ℕ) :
   pub so_far : ends (store_words ws a k from) w ≡ ends (store_words (drop i ws) (a + 2 * i) k r) w'
 
 module _ (ws : List ℕ) (a k from : ℕ) (w : World) where
-  pub storing_none : Storing ws a k from w w 0 from
-  storing_none = record { so_far = ap (λ (b : ℕ). ends (store_words ws b k from) w) second } where
-    second : a ≡ a + 2 * 0
-    second = omega arith
-
   module _ (v : ℕ) (d : Disk) (m : Memory) (i r : ℕ) (f : Storing ws a k from w (world v d m) i r) (within : i < length ws) (x : ℕ) (is : get_or ws i 0 ≡ x) where
     next_word : drop i ws ≡ x ∷ drop (i + 1) ws
     next_word = drop_more ws i 0 within ∙ ap (λ (y : ℕ). y ∷ drop (i + 1) ws) is
@@ -161,13 +134,3 @@ module _ (ws : List ℕ) (a k from : ℕ) (w : World) where
   pub storing_all : (w' : World) (i r : ℕ) → Storing ws a k from w w' i r → length ws ≤ i → ends (store_words ws a k from) w ≡ ended (well r) w'
   unfolding store_words
   storing_all w' i r f past = f.so_far ∙ ap (λ (l : List ℕ). ends (store_words l (a + 2 * i) k r) w') (drop_all i ws past)
-
--- word i of the first n words of some bytes
-pub taken_word : (b : List ℕ) (n i : ℕ) → 2 * n ≤ length b → i < n → (i < length (take n (words_of b))) × (get_or (take n (words_of b)) i 0 ≡ get_or b (2 * i) 0 * 256 + get_or b (2 * i + 1) 0)
-taken_word b n i long within =
-    let word = word_of b i (omega arith) in
-    let inside = word.0 in
-    (rw (length-take n (words_of b)) (omega arith), get_or-take n (words_of b) i 0 within ∙ word.1 0)
-
-pub taken_all : (b : List ℕ) (n i : ℕ) → n ≤ i → length (take n (words_of b)) ≤ i
-taken_all b n i past = rw (length-take n (words_of b)) (omega arith)

@@ -1,4 +1,5 @@
 pub mod Acts
+pub mod Carrying
 pub mod Blocks
 pub mod Words
 pub mod Calls

@@ -1,9 +1,10 @@
 // The calls of the processor and of the unit, the step aside. The device address is the attachment's, not a register.
-ghost use Rattle.std.specs.Prelude.{◌≡◌, ℕ, true};
+ghost use Rattle.std.specs.Prelude.{◌≡◌, ℕ, true, MatchResult};
+ghost use Rattle.answers.specs.declared.answer.Answer.TheVariants.{CommandRefused};
 ghost use Rattle.storage.specs.Memory.{Memory};
 ghost use Rattle.drive.specs.Disk.{Disk};
 ghost use Rattle.card.specs.Acts.{spares_storage, ends, sent, ended, world};
-ghost use Rattle.card.specs.Calls.{new_card, turn, is_idle, is_busy, reset, command_of, meets_busy, accepted, command, store, readiness, serviced};
+ghost use Rattle.card.specs.Calls.{new_card, turn, is_idle, is_busy, reset, meets_busy, accepted, command, store, readiness, serviced};
 
 use crate::call::Command;
 use crate::registers::{Card, Position, Purpose, State};
@@ -12,44 +13,21 @@ use answers::waiting::Waiting;
 use drive::drive::Drive;
 use storage::storage::Storage;
 
-// the command that a byte stands for
-fn command_of(byte: u16) -> Option<Command>
-    ensures { result ≡ command_of byte }
-{
-    match byte {
-        0x20 => Some(Command::ReadDeviceId),
-        0x60 => Some(Command::Prepare),
-        0x6F => Some(Command::DeviceReset),
-        0x70 => Some(Command::Start),
-        0x7F => Some(Command::StartCycleStealStatus),
-        _ => None,
-    }
-}
-
 // only Start, Start Cycle Steal Status and unknown commands meet a busy card
 fn meets_busy(command: Option<Command>) -> bool
     ensures { result ≡ meets_busy command }
 {
-    match command {
-        Some(Command::ReadDeviceId) | Some(Command::Prepare) | Some(Command::DeviceReset) => false,
-        Some(Command::Start) | Some(Command::StartCycleStealStatus) | None => true,
-    }
+    !matches!(
+        command,
+        Some(Command::ReadDeviceId | Command::Prepare | Command::DeviceReset)
+    )
 }
 
 impl State {
     fn is_idle(self) -> bool
         ensures { result ≡ is_idle self }
     {
-        match self {
-            State::Idle => true,
-            State::Fetching {
-                purpose: _,
-                address: _,
-            } => false,
-            State::Moving { block: _ } => false,
-            State::Sector { block: _, done: _ } => false,
-            State::Status { block: _ } => false,
-        }
+        matches!(self, State::Idle)
     }
 }
 
@@ -90,9 +68,29 @@ impl Card {
         self.errors = if self.ready { 0 } else { self.errors % 2 };
     }
 
+    // The command of a first word. The tests in their order: device address, parity, busy, unknown.
+    fn admitted(&self, device: u8, first: u16, parity: bool) -> Result<Command, CommandRefusal>
+        ensures { (x : ℕ) (d : Disk) (m : Memory) → MatchResult result
+            (λ k. ends (command self.now first x parity) (world device d m) ≡ ends (accepted self.now k x) (world device d m))
+            (λ e. ends (command self.now first x parity) (world device d m) ≡ ended (turn self.now (CommandRefused e)) (world device d m)) }
+    {
+        let [code, address] = first.to_be_bytes();
+        let known = Command::try_from(code);
+        if address != device {
+            return Err(CommandRefusal::NotAttached);
+        }
+        if !parity {
+            return Err(CommandRefusal::InterfaceDataCheck);
+        }
+        if self.is_busy() && meets_busy(known.ok()) {
+            return Err(CommandRefusal::Busy);
+        }
+        known
+    }
+
     // an accepted command, with its second word
-    fn accept<D: Drive>(&mut self, device: u8, drive: &D, known: Command, second: u16) -> Answer
-        ensures { (m : Memory) → ends (accepted self.old known second) (world device (D.Drive.meaning drive.now) m) ≡ ended (turn self.new result) (world device (D.Drive.meaning drive.now) m) }
+    fn accept<D: Drive>(&mut self, drive: &D, known: Command, second: u16) -> Answer
+        ensures { (v : ℕ) (m : Memory) → ends (accepted self.old known second) (world v (D.meaning drive.now) m) ≡ ended (turn self.new result) (world v (D.meaning drive.now) m) }
     {
         match known {
             Command::ReadDeviceId => {
@@ -105,7 +103,7 @@ impl Card {
             }
             Command::DeviceReset => self.reset(),
             Command::Start => {
-                self.errors = self.errors & 0x013D;
+                self.errors &= 0x013D;
                 self.state = State::Fetching {
                     purpose: Purpose::Operation,
                     address: second,
@@ -122,6 +120,7 @@ impl Card {
     }
 
     // The two words of the immediate device control block, and whether their parity was good.
+    // kept: it takes address and drive alone, for it has nothing to do with storage; readiness takes the address alone
     pub fn command<D: Drive>(
         &mut self,
         device: u8,
@@ -130,29 +129,11 @@ impl Card {
         second: u16,
         parity: bool,
     ) -> Answer
-        ensures { (m : Memory) → ends (command self.old first second parity) (world device (D.Drive.meaning drive.now) m) ≡ ended (turn self.new result) (world device (D.Drive.meaning drive.now) m) }
+        ensures { (m : Memory) → ends (command self.old first second parity) (world device (D.meaning drive.now) m) ≡ ended (turn self.new result) (world device (D.meaning drive.now) m) }
     {
-        let known = command_of(first / 256);
-        if first % 256 != device as u16 {
-            return Answer::CommandRefused {
-                refusal: CommandRefusal::NotAttached,
-            };
-        }
-        if !parity {
-            return Answer::CommandRefused {
-                refusal: CommandRefusal::InterfaceDataCheck,
-            };
-        }
-        if self.is_busy() && meets_busy(known) {
-            return Answer::CommandRefused {
-                refusal: CommandRefusal::Busy,
-            };
-        }
-        match known {
-            Some(known) => self.accept(device, drive, known, second),
-            None => Answer::CommandRefused {
-                refusal: CommandRefusal::CommandReject,
-            },
+        match self.admitted(device, first, parity) {
+            Ok(known) => self.accept(drive, known, second),
+            Err(refusal) => Answer::CommandRefused { refusal },
         }
     }
 
@@ -171,7 +152,7 @@ impl Card {
         if ready && !self.ready && self.enabled && !self.is_busy() {
             self.waiting = Some(Waiting {
                 code: 4,
-                id_word: device as u16,
+                id_word: u16::from(device),
             });
         }
         self.ready = ready;
@@ -194,11 +175,11 @@ impl Card {
 
 // A word stored by the processor; the card has no part in it.
 pub fn processor_store<S: Storage>(storage: &mut S, address: u32, key: u8, word: u16) -> Answer
-    ensures came { (c : Card) (v : ℕ) (d : Disk) → ends (store c address key word) (world v d (S.Storage.meaning storage.old)) ≡ ended (turn c result) (world v d (S.Storage.meaning storage.new)) }
-    ensures storage { (c : Card) (v : ℕ) (d : Disk) → spares_storage (sent (store c address key word) (world v d (S.Storage.meaning storage.old))) ≡ true → storage.new ≡ storage.old }
+    ensures came { (c : Card) (v : ℕ) (d : Disk) → ends (store c address key word) (world v d (S.meaning storage.old)) ≡ ended (turn c result) (world v d (S.meaning storage.new)) }
+    ensures storage { (c : Card) (v : ℕ) (d : Disk) → spares_storage (sent (store c address key word) (world v d (S.meaning storage.old))) ≡ true → storage.new ≡ storage.old }
 {
     match storage.store(address, key, word) {
-        Ok(_) => Answer::Done,
+        Ok(()) => Answer::Done,
         Err(fault) => Answer::StoreRefused { fault },
     }
 }

@@ -1,11 +1,10 @@
 // The device control block: eight words fetched in order, and the operation that they ask for.
 ghost use Rattle.std.specs.Prelude.{◌≡◌};
-ghost use Rattle.card.specs.Blocks.{chaining, input, key, modifier, downward, difference, flag, cylinder, head, sector, chain, count, data_address, operation_of, input_fits, fits, lawful, lawful_status, sector_now, argument, left};
-
-use drive::sector::SectorId;
+ghost use Rattle.std.specs.Result.{result_ok};
+ghost use Rattle.card.specs.Blocks.{chaining, input, key, modifier, downward, difference, flag, cylinder, head, sector, chain, count, data_address, operation_of, input_fits, fits, lawful, lawful_status};
 
 // What a control block of Start asks for.
-#[derive(Clone, Copy)]
+#[derive(Clone, Copy, PartialEq, Eq, Debug)]
 pub enum Operation {
     Seek,
     Recalibrate,
@@ -21,17 +20,25 @@ pub struct Block {
     pub words: [u16; 8],
 }
 
-// the operation by the modifier
-pub(crate) fn operation_of(modifier: u16) -> Option<Operation>
-    ensures { result ≡ operation_of modifier }
-{
-    match modifier {
-        1 => Some(Operation::WriteData),
-        5 => Some(Operation::Seek),
-        7 => Some(Operation::Recalibrate),
-        9 => Some(Operation::ReadData),
-        12 => Some(Operation::ReadVerify),
-        _ => None,
+// A modifier that stands for no operation.
+#[derive(Clone, Copy, PartialEq, Eq, Debug)]
+pub struct UnknownModifier(pub u8);
+
+// By the modifier of a control word.
+impl TryFrom<u8> for Operation {
+    type Error = UnknownModifier;
+
+    ghost try_from_gives = { λ modifier r. result_ok r ≡ operation_of modifier };
+
+    fn try_from(modifier: u8) -> Result<Operation, UnknownModifier> {
+        match modifier {
+            1 => Ok(Operation::WriteData),
+            5 => Ok(Operation::Seek),
+            7 => Ok(Operation::Recalibrate),
+            9 => Ok(Operation::ReadData),
+            12 => Ok(Operation::ReadVerify),
+            _ => Err(UnknownModifier(modifier)),
+        }
     }
 }
 
@@ -57,7 +64,8 @@ impl Block {
     pub(crate) fn operation(self) -> Option<Operation>
         ensures { result ≡ operation_of (modifier self) }
     {
-        operation_of(self.words[0] % 256)
+        let [_, modifier] = self.words[0].to_be_bytes();
+        Operation::try_from(modifier).ok()
     }
 
     pub(crate) fn is_downward(self) -> bool
@@ -72,16 +80,31 @@ impl Block {
         self.words[1] % 512
     }
 
+    pub(crate) fn flag(self) -> u8
+        ensures { result ≡ flag self }
+    {
+        let [_, flag] = self.words[2].to_be_bytes();
+        flag
+    }
+
+    pub(crate) fn cylinder(self) -> u16
+        ensures { result ≡ cylinder self }
+    {
+        self.words[3]
+    }
+
     pub(crate) fn head(self) -> u8
         ensures { result ≡ head self }
     {
-        (self.words[4] / 256) as u8
+        let [head, _] = self.words[4].to_be_bytes();
+        head
     }
 
     pub(crate) fn sector(self) -> u8
         ensures { result ≡ sector self }
     {
-        (self.words[4] % 256) as u8
+        let [_, sector] = self.words[4].to_be_bytes();
+        sector
     }
 
     pub(crate) fn chain(self) -> u16
@@ -100,31 +123,6 @@ impl Block {
         ensures { result ≡ data_address self }
     {
         self.words[7]
-    }
-
-    // the sector that is searched for when some are done
-    pub(crate) fn sector_now(self, done: u8) -> u8
-        ensures { result ≡ sector_now self done }
-    {
-        ((self.sector() as u16 + done as u16) % 256) as u8
-    }
-
-    pub(crate) fn argument(self, done: u8) -> SectorId
-        ensures { result ≡ argument self done }
-    {
-        SectorId {
-            flag: (self.words[2] % 256) as u8,
-            cylinder: self.words[3],
-            head: self.head(),
-            sector: self.sector_now(done),
-        }
-    }
-
-    // the bytes that are left when some sectors are done
-    pub(crate) fn left(self, done: u8) -> u16
-        ensures { result ≡ left self done }
-    {
-        self.count().saturating_sub(done as u16 * 256)
     }
 
     // what the operation itself asks of its block
@@ -147,8 +145,7 @@ impl Block {
     {
         match operation {
             Operation::ReadData => self.is_input(),
-            Operation::WriteData | Operation::ReadVerify => !self.is_input(),
-            Operation::Seek | Operation::Recalibrate => !self.is_input(),
+            _ => !self.is_input(),
         }
     }
 

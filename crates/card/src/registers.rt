@@ -3,14 +3,14 @@ use crate::control_block::Block;
 use answers::waiting::Waiting;
 
 // Where the heads are: over which cylinder, and which of them is selected.
-#[derive(Clone, Copy)]
+#[derive(Clone, Copy, PartialEq, Eq, Debug)]
 pub struct Position {
     pub cylinder: u16,
     pub head: u8,
 }
 
 // The command that a control block is fetched for.
-#[derive(Clone, Copy)]
+#[derive(Clone, Copy, PartialEq, Eq, Debug)]
 pub enum Purpose {
     // an operation of Start
     Operation,

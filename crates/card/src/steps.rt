@@ -1,15 +1,18 @@
 // The step: it fetches and checks a control block, moves the heads, does one sector, or sends status.
-ghost use Rattle.std.specs.Prelude.{◌≡◌, ℕ, true, false, [], ◌∷◌, length, if◌then◌else◌};
+ghost use Rattle.std.specs.Prelude.{◌≡◌, ℕ, false, map, if◌then◌else◌};
+ghost use Rattle.std.specs.Int.{w16, from_be_bytes};
 ghost use Rattle.storage.specs.Memory.{Memory};
-ghost use Rattle.drive.specs.Disk.{Disk, is_good};
-ghost use Rattle.card.specs.Acts.{spares_storage, spares_drive, ends, sent, ended, world};
+ghost use Rattle.drive.specs.Disk.{Disk};
+ghost use Rattle.card.specs.Acts.{ends, ended, world};
 ghost use Rattle.card.specs.Blocks.{chaining, modifier, operation_of};
 ghost use Rattle.card.specs.Calls.{turn};
-ghost use Rattle.card.specs.Steps.{failed_turn, chained_turn, device_end, checked_head, checked_operation, checked, residual_for, fetch, sought, destination, move, send_status, step};
-ghost use Rattle.card.specs.Words.{words_of};
+ghost use Rattle.card.specs.Carrying.{Looks, Carries};
+ghost use Rattle.card.specs.Steps.{failed_turn, chained_turn, device_end, checked_head, checked_operation, checked, residual_for, fetch, sought, destination, move, status_words, send_status, step};
 
 use crate::control_block::{Block, Operation};
+use crate::progress::Progress;
 use crate::registers::{Card, Position, Purpose, State};
+use crate::surroundings::Surroundings;
 use crate::transfer::{fetch_words, store_words};
 use answers::answer::{Answer, Exception};
 use answers::waiting::Waiting;
@@ -27,10 +30,10 @@ impl Card {
     ) -> Answer
         ensures { turn self.new result ≡ failed_turn device passed_spoiled self.old address exception }
     {
-        self.errors = self.errors | exception.reasons(passed_spoiled);
+        self.errors |= exception.reasons(passed_spoiled);
         self.waiting = Some(Waiting {
             code: 2,
-            id_word: exception.status_byte() * 256 + device as u16,
+            id_word: u16::from_be_bytes([exception.status_byte(), device]),
         });
         self.state = State::Idle;
         Answer::Ended {
@@ -57,7 +60,7 @@ impl Card {
         } else {
             self.waiting = Some(Waiting {
                 code: 3,
-                id_word: device as u16,
+                id_word: u16::from(device),
             });
             self.state = State::Idle;
         }
@@ -65,54 +68,56 @@ impl Card {
     }
 
     // The head of a seek has to be on the drive; then the operation begins.
-    fn check_head<D: Drive>(
+    fn check_head<D: Drive, S: Storage>(
         &mut self,
-        device: u8,
-        drive: &D,
+        around: &Surroundings<D, S>,
         block: Block,
         operation: Operation,
     ) -> Answer
-        ensures { (m : Memory) → ends (checked_head self.old block operation) (world device (D.Drive.meaning drive.now) m) ≡ ended (turn self.new result) (world device (D.Drive.meaning drive.now) m) }
+        ensures { Looks D.meaning S.meaning (checked_head self.old block operation) around.now (turn self.new result) }
     {
         match operation {
             Operation::Seek => {
-                if block.head() >= drive.heads() {
-                    return self.fail(device, block.address, Exception::SpecificationCheck);
+                if block.head() >= around.drive.heads() {
+                    return self.fail(around.device, block.address, Exception::SpecificationCheck);
                 }
                 self.state = State::Moving { block };
             }
             Operation::Recalibrate => self.state = State::Moving { block },
-            Operation::ReadData | Operation::WriteData | Operation::ReadVerify => {
-                self.state = State::Sector { block, done: 0 };
-            }
+            _ => self.state = State::Sector { block, done: 0 },
         }
         Answer::Stepped
     }
 
-    fn check_operation<D: Drive>(&mut self, device: u8, drive: &D, block: Block) -> Answer
-        ensures { (m : Memory) → ends (checked_operation self.old block (operation_of (modifier block))) (world device (D.Drive.meaning drive.now) m) ≡ ended (turn self.new result) (world device (D.Drive.meaning drive.now) m) }
+    fn check_operation<D: Drive, S: Storage>(
+        &mut self,
+        around: &Surroundings<D, S>,
+        block: Block,
+    ) -> Answer
+        ensures { Looks D.meaning S.meaning (checked_operation self.old block (operation_of (modifier block))) around.now (turn self.new result) }
     {
         match block.operation() {
-            Some(operation) => {
-                if block.is_lawful(operation) {
-                    self.check_head(device, drive, block, operation)
-                } else {
-                    self.fail(device, block.address, Exception::SpecificationCheck)
-                }
-            }
-            None => self.fail(device, block.address, Exception::SpecificationCheck),
+            Some(operation) if block.is_lawful(operation) => self.check_head(
+                around, block, operation,
+            ),
+            _ => self.fail(around.device, block.address, Exception::SpecificationCheck),
         }
     }
 
     // The check of a block that was fetched whole.
-    fn check<D: Drive>(&mut self, device: u8, drive: &D, purpose: Purpose, block: Block) -> Answer
-        ensures { (m : Memory) → ends (checked purpose self.old block) (world device (D.Drive.meaning drive.now) m) ≡ ended (turn self.new result) (world device (D.Drive.meaning drive.now) m) }
+    fn check<D: Drive, S: Storage>(
+        &mut self,
+        around: &Surroundings<D, S>,
+        purpose: Purpose,
+        block: Block,
+    ) -> Answer
+        ensures { Looks D.meaning S.meaning (checked purpose self.old block) around.now (turn self.new result) }
     {
         match purpose {
-            Purpose::Operation => self.check_operation(device, drive, block),
+            Purpose::Operation => self.check_operation(around, block),
             Purpose::Status => {
                 if !block.is_lawful_status() {
-                    return self.fail(device, block.address, Exception::SpecificationCheck);
+                    return self.fail(around.device, block.address, Exception::SpecificationCheck);
                 }
                 self.state = State::Status { block };
                 Answer::Stepped
@@ -123,31 +128,28 @@ impl Card {
     // Fetches a block of eight words with key 0, and checks it; an odd address fails before any fetch.
     fn fetch<D: Drive, S: Storage>(
         &mut self,
-        device: u8,
-        drive: &D,
-        storage: &S,
+        around: &Surroundings<D, S>,
         purpose: Purpose,
         address: u16,
     ) -> Answer
-        ensures { ends (fetch purpose self.old address) (world device (D.Drive.meaning drive.now) (S.Storage.meaning storage.now)) ≡ ended (turn self.new result) (world device (D.Drive.meaning drive.now) (S.Storage.meaning storage.now)) }
+        ensures { Looks D.meaning S.meaning (fetch purpose self.old address) around.now (turn self.new result) }
     {
         if address % 2 != 0 {
-            return self.fail(device, address, Exception::SpecificationCheck);
+            return self.fail(around.device, address, Exception::SpecificationCheck);
         }
         let mut words = [0u16; 8];
         let mut residual = self.residual;
-        let fetched = fetch_words(storage, address as u32, 0, &mut words, 8, &mut residual);
+        let fetched = fetch_words(
+            &around.storage,
+            u32::from(address),
+            0,
+            &mut words,
+            &mut residual,
+        );
         self.keep_residual(purpose, residual);
         match fetched {
-            Ok(_) => self.check(device, drive, purpose, Block { address, words }),
-            Err(stopped) => self.fail(
-                device,
-                address,
-                Exception::Storage {
-                    fault: stopped.fault,
-                    address: stopped.address,
-                },
-            ),
+            Ok(()) => self.check(around, purpose, Block { address, words }),
+            Err(stopped) => self.fail(around.device, address, Exception::from(stopped)),
         }
     }
 
@@ -155,9 +157,8 @@ impl Card {
     fn keep_residual(&mut self, purpose: Purpose, residual: u16)
         ensures { self.new ≡ residual_for purpose self.old residual }
     {
-        match purpose {
-            Purpose::Operation => self.residual = residual,
-            Purpose::Status => {}
+        if matches!(purpose, Purpose::Operation) {
+            self.residual = residual;
         }
     }
 
@@ -191,7 +192,7 @@ fn sought(position: Position, block: Block) -> Option<Position>
             head: block.head(),
         });
     }
-    let cylinder = position.cylinder as u32 + block.difference() as u32;
+    let cylinder = u32::from(position.cylinder) + u32::from(block.difference());
     if cylinder > 302 {
         return None;
     }
@@ -208,9 +209,7 @@ fn destination(position: Position, block: Block) -> Option<Position>
     match block.operation() {
         Some(Operation::Seek) => sought(position, block),
         Some(Operation::Recalibrate) => Some(HOME),
-        Some(Operation::ReadData) | Some(Operation::WriteData) | Some(Operation::ReadVerify) =>
-            Some(position),
-        None => Some(position),
+        _ => Some(position),
     }
 }
 
@@ -219,68 +218,56 @@ const HOME: Position = Position {
     head: 0,
 };
 
-// status words 0 to 3, high byte first; word 3 is zero
-fn status_bytes(residual: u16, errors: u16, write_sector: u16) -> [u8; 8]
-    ensures value { words_of result ≡ residual ∷ errors ∷ write_sector ∷ 0 ∷ [] }
-    ensures len { length result ≡ 8 }
-{
-    [
-        (residual / 256) as u8,
-        (residual % 256) as u8,
-        (errors / 256) as u8,
-        (errors % 256) as u8,
-        (write_sector / 256) as u8,
-        (write_sector % 256) as u8,
-        0,
-        0,
-    ]
-}
-
 impl Card {
-    // Sends as many status words as the count asks for; they do not count for the residual address.
-    fn send_status<S: Storage>(&mut self, device: u8, storage: &mut S, block: Block) -> Answer
-        ensures came { (d : Disk) → ends (send_status self.old block) (world device d (S.Storage.meaning storage.old)) ≡ ended (turn self.new result) (world device d (S.Storage.meaning storage.new)) }
-        ensures storage { (d : Disk) → spares_storage (sent (send_status self.old block) (world device d (S.Storage.meaning storage.old))) ≡ true → storage.new ≡ storage.old }
+    // status words 0 to 3, high byte first; word 3 is zero
+    fn status_words(&self) -> [[u8; 2]; 4]
+        ensures { map (from_be_bytes w16) result ≡ status_words self.now }
     {
-        let bytes = status_bytes(self.residual, self.errors, self.write_sector);
-        let count = (block.count() / 2).min(4) as usize;
+        [
+            self.residual.to_be_bytes(),
+            self.errors.to_be_bytes(),
+            self.write_sector.to_be_bytes(),
+            [0, 0],
+        ]
+    }
+
+    // Sends as many status words as the count asks for; they do not count for the residual address.
+    fn send_status<D: Drive, S: Storage>(
+        &mut self,
+        around: &mut Surroundings<D, S>,
+        block: Block,
+    ) -> Answer
+        ensures { Carries D.meaning S.meaning (send_status self.old block) around.old (turn self.new result) around.new }
+    {
+        let words = self.status_words();
+        let count = usize::from(block.count() / 2).min(4);
         let mut residual = self.residual;
-        let address = block.data_address() as u32;
-        match store_words(storage, address, block.key(), &bytes, count, &mut residual) {
-            Ok(_) => self.finish(device, block),
-            Err(stopped) => self.fail(
-                device,
-                block.address,
-                Exception::Storage {
-                    fault: stopped.fault,
-                    address: stopped.address,
-                },
-            ),
+        let stored = store_words(
+            &mut around.storage,
+            u32::from(block.data_address()),
+            block.key(),
+            &words[..count],
+            &mut residual,
+        );
+        match stored {
+            Ok(()) => self.finish(around.device, block),
+            Err(stopped) => self.fail(around.device, block.address, Exception::from(stopped)),
         }
     }
 
     // Does one thing, by the card's state and the block in hand.
-    pub fn step<D: Drive, S: Storage>(
-        &mut self,
-        device: u8,
-        drive: &mut D,
-        storage: &mut S,
-    ) -> Answer
-        ensures came { ends (step self.old) (world device (D.Drive.meaning drive.old) (S.Storage.meaning storage.old)) ≡ ended (turn self.new result) (world device (D.Drive.meaning drive.new) (S.Storage.meaning storage.new)) }
-        ensures drive { spares_drive (sent (step self.old) (world device (D.Drive.meaning drive.old) (S.Storage.meaning storage.old))) ≡ true → drive.new ≡ drive.old }
-        ensures storage { spares_storage (sent (step self.old) (world device (D.Drive.meaning drive.old) (S.Storage.meaning storage.old))) ≡ true → storage.new ≡ storage.old }
+    pub fn step<D: Drive, S: Storage>(&mut self, around: &mut Surroundings<D, S>) -> Answer
+        ensures { Carries D.meaning S.meaning (step self.old) around.old (turn self.new result) around.new }
     {
         if self.waiting.is_some() {
             return Answer::Idle;
         }
         match self.state {
             State::Idle => Answer::Idle,
-            State::Fetching { purpose, address } => self.fetch(
-                device, drive, storage, purpose, address,
-            ),
-            State::Moving { block } => self.move_heads(device, block),
-            State::Sector { block, done } => self.step_sector(device, drive, storage, block, done),
-            State::Status { block } => self.send_status(device, storage, block),
+            State::Fetching { purpose, address } => self.fetch(around, purpose, address),
+            State::Moving { block } => self.move_heads(around.device, block),
+            State::Sector { block, done } => self.step_sector(around, Progress { block, done }),
+            State::Status { block } => self.send_status(around, block),
         }
     }
 }

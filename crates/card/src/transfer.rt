@@ -1,9 +1,12 @@
 // How words move between the card and storage: in order, at rising addresses, until one is not allowed.
-ghost use Rattle.std.specs.Prelude.{◌≡◌, ℕ, ◌*◌, ◌^◌, ◌<◌, ◌≤◌, true, length, take, drop, MatchResult};
+ghost use Rattle.std.specs.Prelude.{◌≡◌, ℕ, ◌^◌, ◌<◌, ◌≤◌, true, length, map, MatchResult};
+ghost use Rattle.std.specs.Int.{w16, from_be_bytes};
 ghost use Rattle.drive.specs.Disk.{Disk};
+ghost use Rattle.answers.specs.declared.answer.Exception.TheVariants.{Storage};
 ghost use Rattle.card.specs.Acts.{spares_storage, ends, sent, ended, world};
-ghost use Rattle.card.specs.Words.{fetch_words, store_words, words_of, well, stopped_at, FetchEnds};
+ghost use Rattle.card.specs.Words.{fetch_words, store_words, well, stopped_at, FetchEnds};
 
+use answers::answer::Exception;
 use basics::fault::Fault;
 use storage::storage::Storage;
 
@@ -14,24 +17,35 @@ pub struct Stopped {
     pub address: u32,
 }
 
-// Fetches a number of words from an address on, and keeps the address of the last good one.
+// A storage fault as an exception.
+impl From<Stopped> for Exception {
+    ghost from_gives = { λ s e. e ≡ Storage s.fault s.address };
+
+    fn from(stopped: Stopped) -> Exception {
+        Exception::Storage {
+            fault: stopped.fault,
+            address: stopped.address,
+        }
+    }
+}
+
+// Fetches the words from an address on, and keeps the address of the last good one.
 pub(crate) fn fetch_words<S: Storage>(
     storage: &S,
     address: u32,
     key: u8,
     words: &mut [u16],
-    count: usize,
     residual: &mut u16,
 ) -> Result<(), Stopped>
-    requires { (address < 2 ^ 20) × ((count ≤ length words.old) × (count ≤ 128)) }
-    ensures rest { drop count words.new ≡ drop count words.old }
-    ensures moved { (v : ℕ) (d : Disk) → FetchEnds result (ends (fetch_words count address key residual.old) (world v d (S.Storage.meaning storage.now))) (take count words.new) residual.new (world v d (S.Storage.meaning storage.now)) }
+    requires low { address < 2 ^ 20 }
+    requires few { length words.old ≤ 128 }
+    ensures { (v : ℕ) (d : Disk) → FetchEnds result (ends (fetch_words (length words.old) address key residual.old) (world v d (S.meaning storage.now))) words.new residual.new (world v d (S.meaning storage.now)) }
 {
-    for i in 0..count {
+    for (i, word) in words.iter_mut().enumerate() {
         let at = address + 2 * i as u32;
         match storage.load(at, key) {
-            Ok(word) => {
-                words[i] = word;
+            Ok(loaded) => {
+                *word = loaded;
                 *residual = (at % 65536) as u16;
             }
             Err(fault) => return Err(Stopped { fault, address: at }),
@@ -40,26 +54,25 @@ pub(crate) fn fetch_words<S: Storage>(
     Ok(())
 }
 
-// Stores the first words of some bytes from an address on, and keeps the address of the last good one.
+// Stores words, high byte first, from an address on, and keeps the address of the last good one.
 pub(crate) fn store_words<S: Storage>(
     storage: &mut S,
     address: u32,
     key: u8,
-    bytes: &[u8],
-    count: usize,
+    words: &[[u8; 2]],
     residual: &mut u16,
 ) -> Result<(), Stopped>
-    requires { (address < 2 ^ 20) × ((2 * count ≤ length bytes.now) × (count ≤ 128)) }
+    requires low { address < 2 ^ 20 }
+    requires few { length words.now ≤ 128 }
     ensures moved { (v : ℕ) (d : Disk) → MatchResult result
-        (λ _. ends (store_words (take count (words_of bytes.now)) address key residual.old) (world v d (S.Storage.meaning storage.old)) ≡ ended (well residual.new) (world v d (S.Storage.meaning storage.new)))
-        (λ s. ends (store_words (take count (words_of bytes.now)) address key residual.old) (world v d (S.Storage.meaning storage.old)) ≡ ended (stopped_at residual.new s.fault s.address) (world v d (S.Storage.meaning storage.new))) }
-    ensures kept { (v : ℕ) (d : Disk) → spares_storage (sent (store_words (take count (words_of bytes.now)) address key residual.old) (world v d (S.Storage.meaning storage.old))) ≡ true → storage.new ≡ storage.old }
+        (λ _. ends (store_words (map (from_be_bytes w16) words.now) address key residual.old) (world v d (S.meaning storage.old)) ≡ ended (well residual.new) (world v d (S.meaning storage.new)))
+        (λ s. ends (store_words (map (from_be_bytes w16) words.now) address key residual.old) (world v d (S.meaning storage.old)) ≡ ended (stopped_at residual.new s.fault s.address) (world v d (S.meaning storage.new))) }
+    ensures kept { (v : ℕ) (d : Disk) → spares_storage (sent (store_words (map (from_be_bytes w16) words.now) address key residual.old) (world v d (S.meaning storage.old))) ≡ true → storage.new ≡ storage.old }
 {
-    for i in 0..count {
+    for (i, word) in words.iter().enumerate() {
         let at = address + 2 * i as u32;
-        let word = bytes[2 * i] as u16 * 256 + bytes[2 * i + 1] as u16;
-        match storage.store(at, key, word) {
-            Ok(_) => *residual = (at % 65536) as u16,
+        match storage.store(at, key, u16::from_be_bytes(*word)) {
+            Ok(()) => *residual = (at % 65536) as u16,
             Err(fault) => return Err(Stopped { fault, address: at }),
         }
     }

@@ -1,6 +1,7 @@
 // A drive of three heads over a small storage, at device address XFF: what comes out otherwise there.
 use crate::said::*;
 use crate::turns::*;
+use card::surroundings::Surroundings;
 use pack::plain_pack::PlainPack;
 use runs::run::run;
 use std::test::Fail;
@@ -53,7 +54,12 @@ fn three_heads_and_512_bytes(rt: HostRuntime) -> Result<(), Fail> {
         return Err(Fail::new("the storage was refused"));
     };
     let mut list = entries(rt.alloc(), &THREE_HEADS)?;
-    let card = run(0xFF, &mut pack, &mut storage, list.as_mut_slice());
+    let mut around = Surroundings {
+        device: 0xFF,
+        drive: &mut pack,
+        storage: &mut storage,
+    };
+    let card = run(&mut around, list.as_mut_slice());
     assert_eq!(rt; (card.position.cylinder, card.position.head), (0, 2));
     check_answers(&rt, list.as_slice(), &THREE_HEADS);
     Ok(())

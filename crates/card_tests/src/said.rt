@@ -1,5 +1,5 @@
 // What a call answers, by the numbers and words of the rules.
-use answers::answer::Answer;
+use answers::answer::{Answer, Detail};
 
 #[derive(Clone, Copy, PartialEq, Eq, Debug)]
 pub enum Said {
@@ -42,14 +42,22 @@ pub fn answered(answer: Answer) -> Said {
             Said::Interrupt(answer.code().unwrap_or(99), waiting.id_word)
         }
         Answer::Ended { exception, block } => Said::Ended(
-            answer.number(),
-            answer.word(),
+            answer.number().unwrap_or(0),
+            answer.word().unwrap_or(""),
             exception.layer().word(),
             block,
-            exception.told(),
+            match exception.told() {
+                Some(Detail::Word(address)) => address,
+                Some(Detail::Sector(sector)) => u32::from(sector),
+                None => 0,
+            },
         ),
         Answer::Stepped => Said::Stepped,
         Answer::Done => Said::Done,
-        _ => Said::Refused(answer.number(), answer.word(), answer.code()),
+        _ => Said::Refused(
+            answer.number().unwrap_or(0),
+            answer.word().unwrap_or(""),
+            answer.code(),
+        ),
     }
 }

@@ -3,6 +3,7 @@ use crate::machine::{DEVICE, Machine, make_disk, make_memory, new_machine};
 use crate::said::{Said, answered};
 use answers::answer::Answer;
 use card::call::Call;
+use card::surroundings::Surroundings;
 use runs::entry::Entry;
 use runs::run::run;
 use std::alloc::{AllocError, Global};
@@ -91,9 +92,12 @@ pub fn check_answers(rt: &impl Abort, entries: &[Entry], turns: &[Turn]) {
 // Plays the calls as one list.
 fn play_whole(rt: &impl Abort, heap: Global, turns: &[Turn]) -> Result<(), Fail> {
     let mut list = entries(heap, turns)?;
-    let mut drive = make_disk(heap, &[], &[])?;
-    let mut storage = make_memory(heap, &[])?;
-    let _ = run(DEVICE, &mut drive, &mut storage, list.as_mut_slice());
+    let mut around = Surroundings {
+        device: DEVICE,
+        drive: make_disk(heap, &[], &[])?,
+        storage: make_memory(heap, &[])?,
+    };
+    let _ = run(&mut around, list.as_mut_slice());
     check_answers(rt, list.as_slice(), turns);
     Ok(())
 }

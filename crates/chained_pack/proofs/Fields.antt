@@ -1,6 +1,6 @@
 -- The fields of a record, read place by place. Assumes nothing.
-use Rattle.std.proofs.Common.{◌≡◌, ℕ, ◌+◌, ◌*◌, ◌<◌, List, get_or, take, drop, ap, ◌∙◌, add-zero, zero-add, arith, lit<}
-use Rattle.pack.specs.Bytes.{get_d_part}
+use Rattle.std.proofs.Common.{◌≡◌, ℕ, ◌+◌, ◌*◌, ◌<◌, ◌≤◌, List, get_or, take, drop, ap, ◌∙◌, add-zero, zero-add, arith, lit<}
+use Rattle.pack.proofs.Bytes.{get_d_part}
 use Rattle.chained_pack.specs.Format.{head_at}
 use Rattle.chained_pack.specs.declared.layout.RecordHead.{RecordHead}
 
@@ -17,6 +17,6 @@ head_from r b i j same =
     rw (at0, same 1 (lit< tt), same 2 (lit< tt), at3, same 4 (lit< tt), same 5 (lit< tt), same 6 (lit< tt))
 
 -- the front of a part
-pub head_part : (b : List ℕ) (at n : ℕ) → n ≡ 268 → head_at (take n (drop at b)) 0 ≡ head_at b at
+pub head_part : (b : List ℕ) (at n : ℕ) → 7 ≤ n → head_at (take n (drop at b)) 0 ≡ head_at b at
 head_part b at n size =
     head_from (take n (drop at b)) b 0 at (λ k small. ap (λ (j : ℕ). get_or (take n (drop at b)) j 0) (zero-add k) ∙ get_d_part b at n k (omega arith))

@@ -2,7 +2,7 @@
 use Rattle.std.proofs.Common.{◌≡◌, ℕ, suc, ◌+◌, ◌-◌, ◌%◌, ◌<◌, ◌≤◌, Bool, true, false, ◌&&◌, eqb, leb, length, sym, ap, ◌∙◌, ap₂, ⊎_elim, arith}
 use Rattle.std.proofs.lemmas.Bool.{cases_lt, eq-eqb, ne_eqb, le-leb, lt-leb, and_left, and_right, and_from}
 use Rattle.chained_pack.specs.Chains.{Directory, chain_from, end_from, each_of, chain_of, belongs, chain_clear}
-use Rattle.chained_pack.specs.Walks.{at_more, at_zero, end_more, end_zero}
+use Rattle.chained_pack.proofs.Walks.{at_more, at_zero, end_more, end_zero}
 
 module _ (d : Directory) (k : ℕ) where
   -- what is left to be clear, from an index on

@@ -1,4 +1,10 @@
+pub mod ChainedDisk
+pub mod Counting
 pub mod Fields
-pub mod Loops
 pub mod Lengths
 pub mod Lookups
+pub mod Loops
+pub mod Parts
+pub mod Passes
+pub mod Sound
+pub mod Walks

@@ -1,57 +1,12 @@
 -- What is found along a chain, and by whom. Assumes nothing.
-use Rattle.std.proofs.Common.{◌≡◌, ℕ, ◌+◌, ◌-◌, ◌%◌, ◌<◌, ◌≤◌, Bool, true, false, not, ◌&&◌, eqb, ◌⊎◌, Some, None, Option, sym, refl, ap, ◌∙◌, ap₂, ⊎_elim, mod-lt, arith, lit<}
-use Rattle.std.proofs.lemmas.Bool.{cond-true, cond-false, cases_Bool, cases_eq, cases_order, both_ways, eq-eqb, eqb-true, and_parts, and_from, and_left, and_right, ne_eqb, false≢true, not-true, not_from_false}
+use Rattle.std.proofs.Common.{◌≡◌, ℕ, ◌+◌, ◌-◌, ◌%◌, ◌<◌, ◌≤◌, true, not, eqb, Some, None, Option, sym, refl, ap, ◌∙◌, ap₂, ⊎_elim, mod-lt, arith, lit<}
+use Rattle.std.proofs.lemmas.Bool.{cases_Bool, cases_eq, cases_order, both_ways, eq-eqb, eqb-true, and_parts, and_from, ne_eqb, false≢true, not-true, not_from_false}
 use Rattle.pack.specs.Layout.{every_below}
 use Rattle.pack.proofs.Below.{every_at, every_from}
-use Rattle.chained_pack.specs.Chains.{Directory, chain_from, chain_of, each_of, every_record, chain_clear, chains_clear, on_chain, is_at, alike, places_once, record_of, first_pass, found_on, is_index, is_first}
+use Rattle.chained_pack.specs.Chains.{Directory, chain_of, each_of, every_record, chain_clear, chains_clear, on_chain, is_at, alike, places_once, record_of, found_on, is_index, is_first}
 use Rattle.chained_pack.specs.Laws.{Orderly}
-use Rattle.chained_pack.specs.Sound.{record_at, comes_to_end, first_within, on_track, on_next, on_use}
-use Rattle.chained_pack.specs.Walks.{apart_from, cases_option, each_at, each_from, first_some, first_none, record_some, record_none, at_more, at_zero, at_none}
-
--- whether a record that says track u and place q is at t and p
-module _ (d : Directory) (t p i u q : ℕ) (track : u ≡ d.track i) (place : q ≡ d.place i) where
-  pub is_here : u ≡ t → q ≡ p → is_at d t p i ≡ true
-  is_here at-t at_p = and_from (eqb (d.track i) t) (eqb (d.place i) p) (eq-eqb (d.track i) t (sym track ∙ at-t)) (eq-eqb (d.place i) p (sym place ∙ at_p))
-
-  pub not_here : ((u ≡ t) × (q ≡ p → ⊥)) ⊎ (u ≡ t → ⊥) → is_at d t p i ≡ false
-  not_here off = ⊎_elim
-      (λ other. and_right (eqb (d.track i) t) (eqb (d.place i) p) (ne_eqb (d.place i) p (λ e. other.1 (place ∙ e))))
-      (λ other. and_left (eqb (d.track i) t) (eqb (d.place i) p) (ne_eqb (d.track i) t (λ e. other (track ∙ e))))
-      off
-
--- a search along a chain: s records were passed, and index i comes next
-module _ (d : Directory) (test : ℕ → Bool) (s i : ℕ) where
-  pub passed_none : (i ≡ 0) ⊎ (d.count ≤ s) → first_pass test (chain_from d.next (d.count - s) i) ≡ None
-  unfolding first_pass
-  passed_none end = ⊎_elim
-      (λ e. at_zero d.next (first_pass test) (d.count - s) i e)
-      (λ past. at_none d.next (first_pass test) d.count s i past)
-      end
-
-  pub passed_one : s < d.count → (i ≡ 0 → ⊥) → test i ≡ false → first_pass test (chain_from d.next (d.count - (s + 1)) (d.next i)) ≡ first_pass test (chain_from d.next (d.count - s) i)
-  unfolding first_pass
-  passed_one below some miss =
-      sym (at_more d.next (first_pass test) d.count s i below some ∙ cond-false (test i) (Some i) _ miss)
-
-  pub hit_one : s < d.count → (i ≡ 0 → ⊥) → test i ≡ true → Some i ≡ first_pass test (chain_from d.next (d.count - s) i)
-  unfolding first_pass
-  hit_one below some hit =
-      sym (at_more d.next (first_pass test) d.count s i below some ∙ cond-true (test i) (Some i) _ hit)
-
-  pub each_none : (i ≡ 0) ⊎ (d.count ≤ s) → each_of test (chain_from d.next (d.count - s) i) ≡ true
-  unfolding each_of
-  each_none end = ⊎_elim
-      (λ e. at_zero d.next (each_of test) (d.count - s) i e)
-      (λ past. at_none d.next (each_of test) d.count s i past)
-      end
-
-  pub each_one : s < d.count → (i ≡ 0 → ⊥) → each_of test (chain_from d.next (d.count - s) i) ≡ (test i && each_of test (chain_from d.next (d.count - (s + 1)) (d.next i)))
-  unfolding each_of
-  each_one below some = at_more d.next (each_of test) d.count s i below some
-
-  pub each_fails : s < d.count → (i ≡ 0 → ⊥) → test i ≡ false → each_of test (chain_from d.next (d.count - s) i) ≡ false
-  each_fails below some miss =
-      each_one below some ∙ and_left (test i) (each_of test (chain_from d.next (d.count - (s + 1)) (d.next i))) miss
+use Rattle.chained_pack.proofs.Sound.{record_at, comes_to_end, first_within, on_track, on_next, on_use}
+use Rattle.chained_pack.proofs.Walks.{apart_from, cases_option, each_at, each_from, first_some, first_none, record_some, record_none}
 
 module _ (d : Directory) (clear : chains_clear d ≡ true) where
   parts : (every_below (chain_clear d) 64 ≡ true) × (every_record d (λ i. on_chain d (d.track i % 64) i) ≡ true)

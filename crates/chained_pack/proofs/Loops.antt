@@ -4,8 +4,8 @@ use Rattle.std.proofs.lemmas.Bool.{cases_eq, eqb-true, false≢true, or_cases}
 use Rattle.drive.specs.Search.{some_of}
 use Rattle.chained_pack.specs.Chains.{Directory, chain_from, end_from}
 use Rattle.chained_pack.specs.Laws.{InUse, Apart, Loopless}
-use Rattle.chained_pack.specs.Counting.{count_none, count_le, count_list}
-use Rattle.chained_pack.specs.Walks.{at_zero, from_more, end_zero, end_more, apart_from}
+use Rattle.chained_pack.proofs.Counting.{count_none, count_le, count_list}
+use Rattle.chained_pack.proofs.Walks.{at_zero, from_more, end_zero, end_more, apart_from}
 
 module _ (next : ℕ → ℕ) where
   end_stays : (f i : ℕ) → end_from next f i ≡ 0 → end_from next (suc f) i ≡ 0
@@ -26,7 +26,7 @@ module _ (next : ℕ → ℕ) where
 
 -- records of a chain whose indexes are of records in use
 in-use-from : (d : Directory) → ((i : ℕ) → InUse d i → d.next i ≤ d.count) → (f i x : ℕ) → i ≤ d.count → some_of (eqb x) (chain_from d.next f i) ≡ true → (1 ≤ x) × (x ≤ d.count)
-unfolding some_of chain_from
+unfolding chain_from
 in-use-from d bound zero i x low here = absurd (false≢true here)
 in-use-from d bound (suc f) i x low here =
     ⊎_elim

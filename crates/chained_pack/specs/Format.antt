@@ -4,18 +4,21 @@
 --   start_of       where a record begins
 --   head_of        the front of a record: next index (2), track (2), place, ID condition, data condition
 --   directory      the count of records in use (bytes 6 and 7), the 64 first indexes (from byte 8), and what each record says of its chain
+--   records_from   the records of a chain from an index on, so many at most, each with its front
 --   HasUsed        there is room for the records in use
 --   sector_at      what a record that begins at an index holds: behind the front the ID (5) and the data (256)
 --   record_for     the record of a place on the drive; its track is cylinder × heads + head
 --   chained_disk   what a chained pack means: a place with no record is blank
+--   StandsFor      where the sector of a place that has a record stands among the bytes
 --   data_put       a record's data replaced and made good: its data condition and its data alone
 --   bytes_after    the bytes after a write, which is accepted exactly where the ID is good
-use Rattle.std.specs.Prelude.{ℕ, ◌+◌, ◌-◌, ◌*◌, ◌%◌, ◌≤◌, cond, List, length, take, drop, Some, None, Option, slice_index, slice_set}
+use Rattle.std.specs.Prelude.{◌≡◌, ℕ, ◌+◌, ◌-◌, ◌*◌, ◌%◌, ◌≤◌, cond, List, map, length, take, drop, Some, None, Option, slice_index, slice_set}
 use Rattle.std.proofs.Math.Seq.{paste}
-use Rattle.drive.specs.Disk.{Sector, Disk, is_good, on_drive, blank}
+use Rattle.drive.specs.Disk.{Sector, Disk, condition_of, is_good, on_drive, blank}
 use Rattle.drive.specs.declared.geometry.Track.{Track}
-use Rattle.pack.specs.Layout.{condition_of, id_of}
-use Rattle.chained_pack.specs.Chains.{Directory, record_of}
+use Rattle.pack.specs.Layout.{id_of, sector_in, IsWithin}
+use Rattle.pack.specs.declared.sector_at.SectorAt.{SectorAt}
+use Rattle.chained_pack.specs.Chains.{Directory, chain_from, record_of}
 use Rattle.chained_pack.specs.declared.layout.RecordHead.{RecordHead}
 
 abbrev pub word_at : List ℕ → ℕ → ℕ
@@ -50,6 +53,9 @@ directory bytes = record {
   place = λ i. (head_of bytes i).place;
 }
 
+abbrev pub records_from : List ℕ → ℕ → ℕ → List (ℕ × RecordHead)
+records_from bytes most i = map (λ j. (j, head_of bytes j)) (chain_from (directory bytes).next most i)
+
 abbrev pub HasUsed : List ℕ → Type 0
 HasUsed bytes = 136 + (directory bytes).count * 268 ≤ length bytes
 
@@ -72,6 +78,14 @@ record_for bytes t p =
 
 abbrev pub chained_disk : List ℕ → Disk
 chained_disk bytes = record { heads = heads_of bytes; sector = λ t p. sector_of bytes (record_for bytes t p) }
+
+pub record StandsFor (bytes : List ℕ) (t : Track) (p : ℕ) (at : SectorAt) : Type 0 where
+  pub index : ℕ
+  pub found : record_for bytes t p ≡ Some index
+  pub front : at.front ≡ start_of index + 5
+  pub body : at.body ≡ start_of index + 12
+  pub within : IsWithin at (length bytes)
+  pub sector : sector_in bytes at ≡ (chained_disk bytes).sector t p
 
 abbrev pub data_put : List ℕ → ℕ → List ℕ → List ℕ
 data_put bytes at new = paste (slice_set bytes (at + 6) 0) (at + 12) new 256

@@ -2,8 +2,3 @@ pub mod Chains
 pub mod Format
 pub mod Lawful
 pub mod Laws
-pub mod ChainedDisk
-pub mod Parts
-pub mod Sound
-pub mod Counting
-pub mod Walks

@@ -1,25 +1,26 @@
 // Following the chains of a pack.
-ghost use Rattle.std.specs.Prelude.{◌≡◌, ◌<◌, ◌≤◌, true, false, length, MatchOption};
+ghost use Rattle.std.specs.Prelude.{◌≡◌, ◌<◌, true, false, length, MatchOption};
 ghost use Rattle.chained_pack.specs.Chains.{chain_of, chain_clear, chains_clear, each_of, is_first, places_once, found_on};
-ghost use Rattle.chained_pack.specs.Format.{HasUsed, directory};
+ghost use Rattle.chained_pack.specs.Format.{directory};
 
-use crate::layout::{CHAINS, count, first, head};
+use crate::image::{Chains, Image};
+use crate::layout::CHAINS;
+use crate::records::Records;
 
-// how many records a chain has, if it is clear
-fn chain_length(pack: &[u8], chain: u16) -> Option<usize>
-    requires { (HasUsed pack.now) × (chain < 64) }
-    ensures { MatchOption result (chain_clear (directory pack.now) chain ≡ false) (λ n. (chain_clear (directory pack.now) chain ≡ true) × (n ≡ length (chain_of (directory pack.now) chain))) }
+// How many records a chain has, if it is clear. Only then may its records be gone through without a test.
+fn chain_length(image: Image<'_>, chain: u16) -> Option<usize>
+    ensures { MatchOption result (chain_clear (directory image.entry.bytes.now) chain ≡ false) (λ n. (chain_clear (directory image.entry.bytes.now) chain ≡ true) × (n ≡ length (chain_of (directory image.entry.bytes.now) chain))) }
 {
-    let used = count(pack);
-    let mut index = first(pack, chain);
-    for records in 0..=used as usize {
+    let used = image.count();
+    let mut index = image.first(chain);
+    for records in 0..=usize::from(used) {
         if index == 0 {
             return Some(records);
         }
         if index > used {
             return None;
         }
-        let front = head(pack, index);
+        let front = image.head(index);
         if front.track % CHAINS != chain {
             return None;
         }
@@ -29,76 +30,44 @@ fn chain_length(pack: &[u8], chain: u16) -> Option<usize>
 }
 
 // whether every chain is clear and no record in use is left over
-pub(crate) fn chains_clear(pack: &[u8]) -> bool
-    requires { HasUsed pack.now }
-    ensures { result ≡ chains_clear (directory pack.now) }
+pub(crate) fn chains_clear(image: Image<'_>) -> bool
+    ensures { result ≡ chains_clear (directory image.entry.bytes.now) }
 {
+    let used = usize::from(image.count());
     let mut records = 0;
     for chain in 0..CHAINS {
-        match chain_length(pack, chain) {
-            Some(length) => records += length,
-            None => return false,
-        }
+        let Some(length) = chain_length(image, chain) else {
+            return false;
+        };
+        records += length;
     }
-    records == count(pack) as usize
+    records == used
 }
 
 // the record of a track's place, looked for along the track's chain
-pub(crate) fn find(pack: &[u8], track: u16, place: u8) -> Option<u16>
-    requires { (HasUsed pack.now) × (chains_clear (directory pack.now) ≡ true) }
-    ensures { result ≡ found_on (directory pack.now) track place }
+pub(crate) fn find(chains: Chains<'_>, track: u16, place: u8) -> Option<u16>
+    ensures { result ≡ found_on (directory chains.entry.image.bytes.now) track place }
 {
-    let mut index = first(pack, track % CHAINS);
-    for _ in 0..count(pack) {
-        if index == 0 {
-            break;
-        }
-        let front = head(pack, index);
-        if front.track == track && front.place == place {
-            return Some(index);
-        }
-        index = front.next;
-    }
-    None
-}
-
-// whether a record is the one that is found at its place
-fn is_first(pack: &[u8], index: u16) -> bool
-    requires { (HasUsed pack.now) × ((chains_clear (directory pack.now) ≡ true) × ((1 ≤ index) × (index ≤ (directory pack.now).count))) }
-    ensures { result ≡ is_first (directory pack.now) index }
-{
-    let front = head(pack, index);
-    find(pack, front.track, front.place) == Some(index)
+    Records::of_chain(chains, track % CHAINS)
+        .find(|(_, front)| front.track == track && front.place == place)
+        .map(|(index, _)| index)
 }
 
 // whether each record of a chain is the first of its place there
-fn chain_single(pack: &[u8], chain: u16) -> bool
-    requires { (HasUsed pack.now) × ((chains_clear (directory pack.now) ≡ true) × (chain < 64)) }
-    ensures { result ≡ each_of (is_first (directory pack.now)) (chain_of (directory pack.now) chain) }
+fn chain_single(chains: Chains<'_>, chain: u16) -> bool
+    requires { chain < 64 }
+    ensures { result ≡ each_of (is_first (directory chains.entry.image.bytes.now)) (chain_of (directory chains.entry.image.bytes.now) chain) }
 {
-    let mut index = first(pack, chain);
-    for _ in 0..count(pack) {
-        if index == 0 {
-            break;
-        }
-        if !is_first(pack, index) {
-            return false;
-        }
-        index = head(pack, index).next;
-    }
-    true
+    Records::of_chain(chains, chain).all(|(index, front)| {
+        let first = find(chains, front.track, front.place);
+        first == Some(index)
+    })
 }
 
 // whether no place is recorded twice; the first place that is ends the search, so no record is looked for
 // past the 900 places of a chain
-pub(crate) fn places_once(pack: &[u8]) -> bool
-    requires { (HasUsed pack.now) × (chains_clear (directory pack.now) ≡ true) }
-    ensures { result ≡ places_once (directory pack.now) }
+pub(crate) fn places_once(chains: Chains<'_>) -> bool
+    ensures { result ≡ places_once (directory chains.entry.image.bytes.now) }
 {
-    for chain in 0..CHAINS {
-        if !chain_single(pack, chain) {
-            return false;
-        }
-    }
-    true
+    (0..CHAINS).all(|chain| chain_single(chains, chain))
 }

@@ -1,10 +1,11 @@
 // What is wrong with bytes that are no chained pack.
-ghost use Rattle.std.specs.Prelude.{◌≡◌, ◌+◌, ◌*◌, ◌≤◌, length};
-ghost use Rattle.chained_pack.specs.Format.{HasUsed, start_of};
+ghost use Rattle.std.specs.Prelude.{◌≡◌, ◌+◌, ◌*◌, ◌≤◌, length, Some, None, MatchResult};
+ghost use Rattle.chained_pack.specs.Format.{directory};
 ghost use Rattle.chained_pack.specs.Lawful.{length_clear, header_clear, record_clear, records_clear, chained_fault};
 
-use crate::chain::{chains_clear, places_once};
-use crate::layout::{HEADER_BYTES, RECORD_BYTES, count, head, heads};
+use crate::chain::places_once;
+use crate::image::{Chains, Image};
+use crate::layout::{COUNT_AT, HEADER_BYTES, RECORD_BYTES, word_at};
 use basics::refusal::Refusal;
 use drive::geometry::{CYLINDERS, PLACES};
 
@@ -12,73 +13,58 @@ use drive::geometry::{CYLINDERS, PLACES};
 const MOST_RECORDS: usize = 65_535;
 
 // whether the length is that of a header and whole records, enough for those in use
-fn length_clear(bytes: &[u8]) -> bool
+pub(crate) fn length_clear(bytes: &[u8]) -> bool
     ensures { result ≡ length_clear bytes.now }
 {
-    if bytes.len() < HEADER_BYTES {
+    let Some(records) = bytes.len().checked_sub(HEADER_BYTES) else {
         return false;
-    }
-    let room = (bytes.len() - HEADER_BYTES) / RECORD_BYTES;
-    if bytes.len() != HEADER_BYTES + room * RECORD_BYTES || room > MOST_RECORDS {
-        return false;
-    }
-    count(bytes) as usize <= room
+    };
+    let room = records / RECORD_BYTES;
+    records % RECORD_BYTES == 0
+        && room <= MOST_RECORDS
+        && usize::from(word_at(bytes, COUNT_AT)) <= room
 }
 
 // whether the text, the heads and the zero are right
-fn header_clear(bytes: &[u8]) -> bool
-    requires { 136 ≤ length bytes.now }
-    ensures { result ≡ header_clear bytes.now }
+fn header_clear(image: Image<'_>) -> bool
+    ensures { result ≡ header_clear image.entry.bytes.now }
 {
-    let [b'4', b'9', b'6', b'2', heads, zero, ..] = bytes else {
-        return false;
-    };
-    (*heads == 2 || *heads == 3) && *zero == 0
+    matches!(image.bytes, [b'4', b'9', b'6', b'2', 2 | 3, 0, ..])
 }
 
 // whether a record's track and place are on the drive, and its conditions are 0 or 1
-fn record_clear(pack: &[u8], index: u16) -> bool
-    requires { (1 ≤ index) × (start_of index + 268 ≤ length pack.now) }
-    ensures { result ≡ record_clear pack.now index }
+fn record_clear(image: Image<'_>, index: u16) -> bool
+    requires { (1 ≤ index) × (index ≤ (directory image.bytes.now).count) }
+    ensures { result ≡ record_clear image.entry.bytes.now index }
 {
-    let front = head(pack, index);
-    (front.track as u32) < CYLINDERS as u32 * heads(pack) as u32
+    let front = image.head(index);
+    u32::from(front.track) < u32::from(CYLINDERS) * u32::from(image.heads())
         && front.place < PLACES
         && front.id_condition <= 1
         && front.data_condition <= 1
 }
 
 // whether every record in use is clear
-fn records_clear(pack: &[u8]) -> bool
-    requires { HasUsed pack.now }
-    ensures { result ≡ records_clear pack.now }
+fn records_clear(image: Image<'_>) -> bool
+    ensures { result ≡ records_clear image.entry.bytes.now }
 {
-    for index in 1..=count(pack) {
-        if !record_clear(pack, index) {
-            return false;
-        }
-    }
-    true
+    (1..=image.count()).all(|index| record_clear(image, index))
 }
 
-// why bytes are no chained pack, if they are none: each rule over the whole pack before the next
-pub(crate) fn fault(bytes: &[u8]) -> Option<Refusal>
-    ensures { result ≡ chained_fault bytes.now }
+// Whether bytes are a chained pack, or what is wrong with them: each rule over the whole pack before the next.
+pub(crate) fn check(bytes: &[u8]) -> Result<(), Refusal>
+    ensures { MatchResult result (λ _. chained_fault bytes.now ≡ None) (λ e. chained_fault bytes.now ≡ Some e) }
 {
-    if !length_clear(bytes) {
-        return Some(Refusal::Length);
+    let image = Image::of(bytes).ok_or(Refusal::Length)?;
+    if !header_clear(image) {
+        return Err(Refusal::Header);
     }
-    if !header_clear(bytes) {
-        return Some(Refusal::Header);
+    if !records_clear(image) {
+        return Err(Refusal::Record);
     }
-    if !records_clear(bytes) {
-        return Some(Refusal::Record);
+    let chains = Chains::of(image).ok_or(Refusal::Chain)?;
+    if !places_once(chains) {
+        return Err(Refusal::Double);
     }
-    if !chains_clear(bytes) {
-        return Some(Refusal::Chain);
-    }
-    if !places_once(bytes) {
-        return Some(Refusal::Double);
-    }
-    None
+    Ok(())
 }

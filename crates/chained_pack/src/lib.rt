@@ -4,4 +4,6 @@
 mod chain;
 pub mod chained;
 mod check;
+mod image;
 mod layout;
+mod records;

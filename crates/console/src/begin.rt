@@ -1,55 +1,52 @@
 // Memory for storages and packs, and the machine that a script begins with.
+use crate::undone::NotDone;
 use anyhow::anyhow;
+use basics::refusal::Refusal;
 use machine::any_pack::AnyPack;
 use machine::any_storage::AnyStorage;
 use machine::fresh_pack::fresh_pack;
 use machine::machine::Machine;
 use pack::plain_pack::open::{THREE_HEADS_BYTES, TWO_HEADS_BYTES};
 use script::line::Keys;
-use std::alloc::{AllocError, Global};
+use std::alloc::Global;
 use storage::keyed::BLOCK_BYTES;
 use storage::plain::Plain;
 
 // the largest storage
 const MOST_BYTES: usize = 65_536;
 
-// Bytes for a storage of this size; one that is too large gets one byte too many, and is refused by that.
-pub fn storage_bytes(heap: Global, size: usize) -> Result<Vec<u8>, AllocError> {
-    vec![in heap; 0u8; size.min(MOST_BYTES + 1)]
-}
-
-// Bytes for the blocks of keyed storage.
-pub fn block_bytes(heap: Global, keys: &Vec<u8>) -> Result<Vec<u8>, AllocError> {
-    storage_bytes(heap, keys.len().saturating_mul(BLOCK_BYTES))
-}
-
-// The keys of a line; where there are more than 32, one more, and no storage is made with those.
-pub fn keys(heap: Global, given: Keys) -> Result<Vec<u8>, AllocError> {
-    let mut keys = given.keys.to_vec(heap)?;
-    if given.count > keys.len() {
-        keys.push(0)?;
+// Bytes for a storage of this size, which may be too large.
+pub fn storage_bytes(heap: Global, size: usize) -> Result<Vec<u8>, NotDone> {
+    if size > MOST_BYTES {
+        return Err(Refusal::Length.into());
     }
-    keys.truncate(given.count);
-    Ok(keys)
+    Ok(vec![in heap; 0u8; size]?)
 }
 
-// Bytes for a plain pack of so many heads; no bytes are no pack.
-pub fn pack_bytes(heap: Global, heads: u32) -> Result<Vec<u8>, AllocError> {
+// Bytes for the blocks of keyed storage, with the keys of a line, which may be too many.
+pub fn keyed_bytes(heap: Global, given: Keys) -> Result<(Vec<u8>, Vec<u8>), NotDone> {
+    let keys = given.keys.get(..given.count).ok_or(Refusal::Length)?;
+    let bytes = storage_bytes(heap, keys.len().saturating_mul(BLOCK_BYTES))?;
+    Ok((bytes, keys.to_vec(heap)?))
+}
+
+// Bytes for a plain pack of so many heads, of which none but two or three make one.
+pub fn pack_bytes(heap: Global, heads: u32) -> Result<Vec<u8>, NotDone> {
     let size = match heads {
         2 => TWO_HEADS_BYTES,
         3 => THREE_HEADS_BYTES,
-        _ => 0,
+        _ => return Err(Refusal::Length.into()),
     };
-    vec![in heap; 0u8; size]
+    Ok(vec![in heap; 0u8; size]?)
 }
 
 // Plain storage of 65,536 bytes, a fresh pack of two heads, device 00.
 pub fn machine(heap: Global) -> anyhow::Result<Machine> {
-    let Ok(pack) = fresh_pack(pack_bytes(heap, 2)?) else {
-        return Err(anyhow!("the first pack was refused"));
-    };
-    let Ok(storage) = Plain::new(storage_bytes(heap, MOST_BYTES)?) else {
-        return Err(anyhow!("the first storage was refused"));
-    };
+    let pack = fresh_pack(vec![in heap; 0u8; TWO_HEADS_BYTES]?).map_err(|_| anyhow!(
+        "the first pack was refused"
+    ))?;
+    let storage = Plain::new(vec![in heap; 0u8; MOST_BYTES]?).map_err(|_| anyhow!(
+        "the first storage was refused"
+    ))?;
     Ok(Machine::new(0, AnyPack::Plain(pack), AnyStorage::Plain(storage)))
 }

@@ -4,10 +4,10 @@ use crate::{heal, recipe, show};
 use anyhow::anyhow;
 use drive::drive::Drive;
 use drive::geometry::Track;
+use load::load::empty_storage;
 use pack::plain_pack::PlainPack;
 use pack::plain_pack::open::TWO_HEADS_BYTES;
 use std::alloc::Global;
-use storage::plain::Plain;
 
 const CYLINDER: u16 = 12;
 
@@ -16,28 +16,16 @@ const RECIPE_SECTOR: u8 = 7;
 // A pack of two heads in memory, with the tracks of one cylinder made fresh.
 fn fresh_cylinder(heap: Global) -> anyhow::Result<PlainPack> {
     let bytes = vec![in heap; 0u8; TWO_HEADS_BYTES]?;
-    let Ok(mut pack) = PlainPack::open(bytes) else {
-        return Err(anyhow!("the pack was refused"));
-    };
+    let mut pack = PlainPack::open(bytes).map_err(|_| anyhow!("the pack was refused"))?;
     for head in 0..2 {
         let track = Track {
             cylinder: CYLINDER,
             head,
         };
-        if pack.fresh_track(track).is_err() {
-            return Err(anyhow!("a track is not on the drive"));
-        }
+        pack.fresh_track(track)
+            .map_err(|_| anyhow!("a track is not on the drive"))?;
     }
     Ok(pack)
-}
-
-// Plain storage of 4,096 bytes, all words zero.
-fn empty_storage(heap: Global) -> anyhow::Result<Plain> {
-    let bytes = vec![in heap; 0u8; 4096]?;
-    match Plain::new(bytes) {
-        Ok(storage) => Ok(storage),
-        Err(_) => Err(anyhow!("the storage was refused")),
-    }
 }
 
 pub fn run(rt: &HostRuntime) -> anyhow::Result<()> {

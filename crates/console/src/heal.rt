@@ -16,33 +16,18 @@ const EMPTY: u8 = 15;
 // The bytes of a pack with one record, of cylinder 12, head 1, place 14: sector 7, all data zero.
 // Its track is 12 × 2 + 1, and its chain is that number.
 fn one_record(heap: Global) -> anyhow::Result<Vec<u8>> {
-    let mut bytes = vec![in heap; 0u8; 404]?;
-    let header = [0x34u8, 0x39, 0x36, 0x32, 2, 0, 0, 1];
-    for (i, byte) in header.iter().enumerate() {
-        if i < bytes.len() {
-            bytes[i] = *byte;
-        }
-    }
-    for (at, byte) in [
-        (59usize, 1u8),
-        (139, 25),
-        (140, RECORDED),
-        (145, 12),
-        (146, 1),
-        (147, 7),
-    ] {
-        if at < bytes.len() {
-            bytes[at] = byte;
-        }
-    }
-    Ok(bytes)
+    let mut bytes = [0u8; 404];
+    bytes[..8].copy_from_slice(b"4962\x02\0\0\x01");
+    bytes[59] = 1;
+    bytes[139..141].copy_from_slice(&[25, RECORDED]);
+    bytes[145..148].copy_from_slice(&[12, 1, 7]);
+    Ok(bytes.to_vec(heap)?)
 }
 
 fn open(heap: Global) -> anyhow::Result<DefectLayer<ChainedPack>> {
-    match ChainedPack::open(one_record(heap)?) {
-        Ok(pack) => Ok(DefectLayer::new(pack)),
-        Err(_) => Err(anyhow!("the chained pack was refused")),
-    }
+    ChainedPack::open(one_record(heap)?)
+        .map(DefectLayer::new)
+        .map_err(|_| anyhow!("the chained pack was refused"))
 }
 
 pub fn run(rt: &HostRuntime, track: Track) -> anyhow::Result<()> {
@@ -55,14 +40,14 @@ pub fn run(rt: &HostRuntime, track: Track) -> anyhow::Result<()> {
         track,
         place: RECORDED,
     };
-    if drive.mark(data).is_err() {
-        return Err(anyhow!("the mark was refused"));
-    }
+    drive
+        .mark(data)
+        .map_err(|_| anyhow!("the mark was refused"))?;
     println!(rt; "a mark spoils the data of place {RECORDED}")?;
     show::place(rt, &drive, track, RECORDED)?;
-    if drive.write(track, RECORDED, &[0x5A; SECTOR_BYTES]).is_err() {
-        return Err(anyhow!("the write was refused"));
-    }
+    drive
+        .write(track, RECORDED, &[0x5A; SECTOR_BYTES])
+        .map_err(|_| anyhow!("the write was refused"))?;
     println!(rt; "a write heals it")?;
     show::place(rt, &drive, track, RECORDED)
 }

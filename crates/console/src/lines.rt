@@ -1,6 +1,10 @@
 // A script's lines, read and answered one after another.
+ghost use Rattle.std.specs.Prelude.{Some, None, []};
+ghost use Rattle.std.specs.Iterator.{item_count};
+ghost use Rattle.script.specs.Words.{lines};
+
 use crate::save::save;
-use crate::set_up::Outcome;
+use crate::undone::NotDone;
 use crate::{begin, looks, script_file, set_up};
 use anyhow::anyhow;
 use drive::drive::Drive;
@@ -13,28 +17,30 @@ use std::fmt::Display;
 use std::io;
 use std::io::{BufWriter, Write};
 
+// The lines of a text that are left.
+#[derive(Drop)]
+struct Lines<'a>(Option<&'a str>);
+
+impl<'a> Iterator for Lines<'a> {
+    type Item = &'a str;
+
+    ghost remaining = { item_count (λ s. elim s.0 [ None ↦ [] | Some text ↦ lines text.now ]) };
+
+    fn next(&mut self) -> Option<&'a str> {
+        let (line, rest) = next_line(self.0?);
+        self.0 = rest;
+        Some(line)
+    }
+}
+
 fn unreadable<W: Write, R: Display>(out: &mut W, number: u64, reason: &R) -> io::Result<()> {
     writeln!(out, "? line {number}: {reason}")
 }
 
-fn told<W: Write>(out: &mut W, number: u64, outcome: Outcome) -> io::Result<()> {
-    match outcome {
-        Outcome::Done => writeln!(out, "ok"),
-        Outcome::Refused(refusal) => writeln!(out, "{}", RefusedLine(refusal)),
-        Outcome::Unreadable(reason) => unreadable(out, number, &reason),
-    }
-}
-
-fn saved<W: Write>(
-    rt: &HostRuntime,
-    out: &mut W,
-    machine: &Machine,
-    number: u64,
-    name: &str,
-) -> io::Result<()> {
-    match save(rt, name, machine.drive().below().bytes()) {
-        Ok(()) => writeln!(out, "ok"),
-        Err(error) => unreadable(out, number, &error),
+fn not_done<W: Write>(out: &mut W, number: u64, why: NotDone) -> io::Result<()> {
+    match why {
+        NotDone::Refused(refusal) => writeln!(out, "{}", RefusedLine(refusal)),
+        NotDone::Unreadable(reason) => unreadable(out, number, &reason),
     }
 }
 
@@ -48,12 +54,20 @@ fn answer<W: Write>(
 ) -> io::Result<Machine> {
     match read_line(text) {
         Ok(Line::Blank) => {}
-        Ok(Line::SetUp(line)) => {
-            let after = set_up::perform(rt, machine, line);
-            told(out, number, after.outcome)?;
-            machine = after.machine;
-        }
-        Ok(Line::Save { name }) => saved(rt, out, &machine, number, name)?,
+        Ok(Line::SetUp(line)) => match set_up::perform(rt, machine, line) {
+            Ok(after) => {
+                writeln!(out, "ok")?;
+                machine = after;
+            }
+            Err(undone) => {
+                not_done(out, number, undone.why)?;
+                machine = undone.machine;
+            }
+        },
+        Ok(Line::Save { name }) => match save(rt, name, machine.drive().below().bytes()) {
+            Ok(()) => writeln!(out, "ok")?,
+            Err(error) => unreadable(out, number, &error)?,
+        },
         Ok(Line::Call(call)) => {
             let answer = machine.carry_out(call);
             writeln!(out, "{}", answer_line(call, answer))?;
@@ -67,13 +81,8 @@ fn answer<W: Write>(
 // Answers all lines of a text.
 fn answer_all<W: Write>(rt: &HostRuntime, out: &mut W, text: &str) -> anyhow::Result<()> {
     let mut machine = begin::machine(rt.alloc())?;
-    let mut number = 0u64;
-    let mut left = Some(text);
-    while let Some(text) = left {
-        let (line, rest) = next_line(text);
-        number = number.saturating_add(1);
+    for (number, line) in (1u64..).zip(Lines(Some(text))) {
         machine = answer(rt, out, machine, number, line)?;
-        left = rest;
     }
     Ok(())
 }

@@ -4,7 +4,6 @@ use answers::waiting::Waiting;
 use card::registers::Card;
 use drive::drive::Drive;
 use drive::geometry::{PLACES, Track};
-use drive::sector::Condition;
 use machine::machine::Machine;
 use machine::sums::{data_sum, places_sum};
 use script::hex::{Address, Byte, Sum, Word};
@@ -67,8 +66,7 @@ fn words<W: Write, S: Storage>(
     address: u32,
     count: u32,
 ) -> io::Result<()> {
-    for line in 0..count.div_ceil(WORDS_A_LINE) {
-        let done = line.saturating_mul(WORDS_A_LINE);
+    for done in (0..count).step_by(WORDS_A_LINE as usize) {
         row(
             out,
             storage,
@@ -79,17 +77,10 @@ fn words<W: Write, S: Storage>(
     Ok(())
 }
 
-fn condition(condition: Condition) -> &'static str {
-    match condition {
-        Condition::Good => "good",
-        Condition::Spoiled => "spoiled",
-    }
-}
-
 fn place<W: Write, D: Drive>(out: &mut W, drive: &D, track: Track, place: u8) -> io::Result<()> {
     let field = drive.id(track, place);
     let id = field.id;
-    write!(out, "place {place:02}: id {} ", condition(field.condition))?;
+    write!(out, "place {place:02}: id {} ", field.condition)?;
     write!(
         out,
         "{} {} {} {} ",
@@ -98,7 +89,7 @@ fn place<W: Write, D: Drive>(out: &mut W, drive: &D, track: Track, place: u8) ->
         Byte(id.head),
         Byte(id.sector)
     )?;
-    let data = condition(drive.data_condition(track, place));
+    let data = drive.data_condition(track, place);
     match data_sum(drive, track, place) {
         Some(sum) => writeln!(out, "data {data} {}", Sum(sum)),
         None => writeln!(out, "data {data} --------"),

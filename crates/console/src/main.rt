@@ -11,9 +11,11 @@ mod save;
 mod script_file;
 mod set_up;
 mod show;
+mod undone;
 
-use anyhow::anyhow;
 use std::env;
+use std::env::Args;
+use thiserror::Error;
 
 const USAGE: &str = "usage: console [run SCRIPT], where - is standard input";
 
@@ -23,33 +25,39 @@ enum Task {
     Demonstrate,
     // the script's name
     Run(String),
-    // what is wrong
-    Wrong(&'static str),
 }
 
-fn asked_for(rt: &HostRuntime) -> anyhow::Result<Task> {
-    let mut args = env::args(rt)?;
+#[derive(Debug, Drop, Error)]
+enum Misuse {
+    #[error("the first word is not run")]
+    OtherWord,
+    #[error("run takes the name of a script")]
+    NoName,
+    #[error("run takes one name")]
+    MoreNames,
+}
+
+fn asked_for(mut args: Args) -> Result<Task, Misuse> {
     let _ = args.next();
-    let Some(word) = args.next() else {
-        return Ok(Task::Demonstrate);
-    };
-    if word.as_str() != "run" {
-        return Ok(Task::Wrong("the first word is not run"));
+    match args.next() {
+        None => return Ok(Task::Demonstrate),
+        Some(word) if word.as_str() == "run" => {}
+        Some(_) => return Err(Misuse::OtherWord),
     }
     match (args.next(), args.next()) {
         (Some(name), None) => Ok(Task::Run(name)),
-        (None, _) => Ok(Task::Wrong("run takes the name of a script")),
-        (Some(_), Some(_)) => Ok(Task::Wrong("run takes one name")),
+        (None, _) => Err(Misuse::NoName),
+        (Some(_), Some(_)) => Err(Misuse::MoreNames),
     }
 }
 
 fn perform(rt: &HostRuntime) -> anyhow::Result<()> {
-    match asked_for(rt)? {
-        Task::Demonstrate => demonstration::run(rt),
-        Task::Run(name) => lines::run(rt, name.as_str()),
-        Task::Wrong(what) => {
+    match asked_for(env::args(rt)?) {
+        Ok(Task::Demonstrate) => demonstration::run(rt),
+        Ok(Task::Run(name)) => lines::run(rt, name.as_str()),
+        Err(misuse) => {
             eprintln!(rt; "{USAGE}")?;
-            Err(anyhow!("{what}"))
+            Err(misuse.into())
         }
     }
 }

@@ -1,18 +1,14 @@
 // A recipe in storage, on its way to a sector and back.
-ghost use Rattle.std.specs.Prelude.{◌<◌};
-
 use anyhow::anyhow;
 use basics::fault::Fault;
 use drive::drive::Drive;
 use drive::geometry::{SECTOR_BYTES, Track};
 use drive::search::search;
 use drive::sector::SectorId;
+use load::load::RECIPE;
 use storage::storage::Storage;
 
-// dye, water, salt, temperature, minutes, lot
-const RECIPE: [u16; 6] = [0x01F4, 0x0FA0, 0x0078, 0x0062, 0x002D, 0x1A2B];
-
-pub const WORDS: u32 = 6;
+pub const WORDS: usize = RECIPE.len();
 
 // where the recipe is entered, and where it is read back to
 const ENTERED: u32 = 0x0100;
@@ -21,14 +17,26 @@ const READ_BACK: u32 = 0x0200;
 
 const KEY: u8 = 0;
 
-// Stores the words of the recipe.
-pub fn enter<S: Storage>(storage: &mut S) -> anyhow::Result<()> {
-    for (i, word) in RECIPE.iter().enumerate() {
-        if storage.store(ENTERED + 2 * i as u32, KEY, *word).is_err() {
-            return Err(anyhow!("a word of the recipe can't be stored"));
-        }
+// Stores words from an address on.
+fn store<S: Storage>(storage: &mut S, address: u32, words: [u16; WORDS]) -> Result<(), Fault> {
+    for (address, word) in (address..).step_by(2).zip(words) {
+        storage.store(address, KEY, word)?;
     }
     Ok(())
+}
+
+// The words from an address on.
+fn load<S: Storage>(storage: &S, address: u32) -> Result<[u16; WORDS], Fault> {
+    let mut words = [0; WORDS];
+    for (word, address) in words.iter_mut().zip((address..).step_by(2)) {
+        *word = storage.load(address, KEY)?;
+    }
+    Ok(words)
+}
+
+// Stores the words of the recipe.
+pub fn enter<S: Storage>(storage: &mut S) -> anyhow::Result<()> {
+    store(storage, ENTERED, RECIPE).map_err(|_| anyhow!("a word of the recipe can't be stored"))
 }
 
 // the place of a sector of the track, searched from index
@@ -39,22 +47,25 @@ fn find<D: Drive>(drive: &D, track: Track, sector: u8) -> anyhow::Result<u8> {
         head: track.head,
         sector,
     };
-    match search(drive, track, argument) {
-        Ok(place) => Ok(place),
-        Err(_) => Err(anyhow!("no record found")),
-    }
+    search(drive, track, argument).map_err(|_| anyhow!("no record found"))
 }
 
-// the words of the recipe as the bytes of a sector, the rest zero
-fn gather<S: Storage>(storage: &S) -> Result<[u8; SECTOR_BYTES], Fault> {
-    let mut bytes = [0u8; SECTOR_BYTES];
-    for i in 0..WORDS {
-        let word = storage.load(ENTERED + 2 * i, KEY)?;
-        let at = 2 * i as usize;
-        bytes[at] = (word / 256) as u8;
-        bytes[at + 1] = (word % 256) as u8;
+// words as the bytes of a sector, the rest zero
+fn sector_of(words: [u16; WORDS]) -> [u8; SECTOR_BYTES] {
+    let mut bytes = [0; SECTOR_BYTES];
+    for (pair, word) in bytes.as_chunks_mut().0.iter_mut().zip(words) {
+        *pair = word.to_be_bytes();
     }
-    Ok(bytes)
+    bytes
+}
+
+// the words that the bytes of a sector begin with
+fn words_of(bytes: &[u8]) -> [u16; WORDS] {
+    let mut words = [0; WORDS];
+    for (word, pair) in words.iter_mut().zip(bytes.as_chunks().0) {
+        *word = u16::from_be_bytes(*pair);
+    }
+    words
 }
 
 // Writes the recipe into a sector, and answers the place where it was found.
@@ -65,12 +76,10 @@ pub fn write<S: Storage, D: Drive>(
     sector: u8,
 ) -> anyhow::Result<u8> {
     let place = find(drive, track, sector)?;
-    let Ok(bytes) = gather(storage) else {
-        return Err(anyhow!("a word of the recipe can't be read"));
-    };
-    if drive.write(track, place, &bytes).is_err() {
-        return Err(anyhow!("the sector can't be written"));
-    }
+    let words = load(storage, ENTERED).map_err(|_| anyhow!("a word of the recipe can't be read"))?;
+    drive
+        .write(track, place, &sector_of(words))
+        .map_err(|_| anyhow!("the sector can't be written"))?;
     Ok(place)
 }
 
@@ -80,37 +89,24 @@ pub fn read_back<S: Storage, D: Drive>(
     drive: &D,
     track: Track,
     sector: u8,
-) -> anyhow::Result<u32> {
+) -> anyhow::Result<usize> {
     let place = find(drive, track, sector)?;
-    let Ok(bytes) = drive.read(track, place) else {
-        return Err(anyhow!("the sector can't be read"));
-    };
-    let mut alike = 0u32;
-    for i in 0..WORDS {
-        let at = 2 * i as usize;
-        if at + 1 >= bytes.len() {
-            return Err(anyhow!("the sector is short"));
-        }
-        let word = u16::from(bytes[at]) * 256 + u16::from(bytes[at + 1]);
-        if storage.store(READ_BACK + 2 * i, KEY, word).is_err() {
-            return Err(anyhow!("a word can't be stored"));
-        }
-        if same(storage, i) {
-            alike = alike.saturating_add(1);
-        }
-    }
-    Ok(alike)
+    let bytes = drive
+        .read(track, place)
+        .map_err(|_| anyhow!("the sector can't be read"))?;
+    store(storage, READ_BACK, words_of(bytes)).map_err(|_| anyhow!("a word can't be stored"))?;
+    alike(storage).map_err(|_| anyhow!("a word can't be read back"))
 }
 
-// whether word i was read back as it was entered
-fn same<S: Storage>(storage: &S, i: u32) -> bool
-    requires { i < 6 }
-{
-    match (
-        storage.load(ENTERED + 2 * i, KEY),
-        storage.load(READ_BACK + 2 * i, KEY),
-    ) {
-        (Ok(entered), Ok(back)) => entered == back,
-        _ => false,
-    }
+// how many words were read back as they were entered
+fn alike<S: Storage>(storage: &S) -> Result<usize, Fault> {
+    let entered = load(storage, ENTERED)?;
+    let back = load(storage, READ_BACK)?;
+    Ok(
+        entered
+            .iter()
+            .zip(&back)
+            .filter(|(word, back)| word == back)
+            .count(),
+    )
 }

@@ -13,10 +13,7 @@ fn write(mut file: File, bytes: &[u8]) -> io::Result<()> {
 
 // Fills a new file and lets it take the name; where that fails, the new file goes.
 fn replace(rt: &HostRuntime, file: File, beside: &str, name: &str, bytes: &[u8]) -> io::Result<()> {
-    let mut result = write(file, bytes);
-    if result.is_ok() {
-        result = fs::rename(rt, beside, name);
-    }
+    let result = write(file, bytes).and_then(|()| fs::rename(rt, beside, name));
     if result.is_err() {
         let _ = fs::remove_file(rt, beside);
     }
@@ -28,12 +25,8 @@ fn save_beside(rt: &HostRuntime, name: &str, bytes: &[u8]) -> io::Result<()> {
     for number in 0..NAMES {
         let beside = format!(in rt.alloc(); "{name}.new{number}")?;
         match File::create_new(rt, beside.as_str()) {
-            Ok(file) => return replace(rt, file, beside.as_str(), name, bytes),
-            Err(error) => {
-                if error.kind() != ErrorKind::AlreadyExists {
-                    return Err(error);
-                }
-            }
+            Err(error) if error.kind() == ErrorKind::AlreadyExists => {}
+            file => return replace(rt, file?, beside.as_str(), name, bytes),
         }
     }
     Err(io::Error::from(ErrorKind::AlreadyExists))
@@ -42,13 +35,7 @@ fn save_beside(rt: &HostRuntime, name: &str, bytes: &[u8]) -> io::Result<()> {
 // What is there and no plain file, as a link or a device, is written to as it stands.
 pub fn save(rt: &HostRuntime, name: &str, bytes: &[u8]) -> io::Result<()> {
     match fs::symlink_metadata(rt, name) {
-        Ok(found) => {
-            if found.is_file() {
-                save_beside(rt, name, bytes)
-            } else {
-                fs::write(rt, name, bytes)
-            }
-        }
-        Err(_) => save_beside(rt, name, bytes),
+        Ok(found) if !found.is_file() => fs::write(rt, name, bytes),
+        _ => save_beside(rt, name, bytes),
     }
 }

@@ -1,56 +1,12 @@
 // Set-up lines, done.
 use crate::begin;
-use anyhow::anyhow;
+use crate::undone::{NotDone, Undone};
 use basics::handed_back::HandedBack;
-use basics::refusal::Refusal;
 use drive::defect::Defect;
 use drive::geometry::Track;
-use machine::machine::{Machine, NotFresh};
-use script::line::{DefectAt, Keys, SetUp};
-use std::{fs, io};
-
-// What came of a set-up line.
-#[derive(Drop)]
-pub enum Outcome {
-    Done,
-    Refused(Refusal),
-    // the line can't be read, for this reason
-    Unreadable(anyhow::Error),
-}
-
-// The machine after a set-up line, and what came of it.
-#[derive(Drop)]
-pub struct After {
-    pub machine: Machine,
-    pub outcome: Outcome,
-}
-
-fn done(machine: Machine) -> After {
-    After {
-        machine,
-        outcome: Outcome::Done,
-    }
-}
-
-fn unreadable(machine: Machine, reason: anyhow::Error) -> After {
-    After {
-        machine,
-        outcome: Outcome::Unreadable(reason),
-    }
-}
-
-fn tried(res: Result<Machine, HandedBack<Machine>>) -> After {
-    match res {
-        Ok(machine) => done(machine),
-        Err(back) => {
-            let HandedBack { refusal, given } = back;
-            After {
-                machine: given,
-                outcome: Outcome::Refused(refusal),
-            }
-        }
-    }
-}
+use machine::machine::Machine;
+use script::line::{DefectAt, SetUp};
+use std::fs;
 
 // a number too large for its type is off the drive, and so is the largest of the type
 pub fn track(cylinder: u32, head: u32) -> Track {
@@ -68,74 +24,47 @@ fn defect(at: DefectAt) -> Defect {
     }
 }
 
-fn plain_storage(rt: &HostRuntime, machine: Machine, size: u32) -> After {
-    match begin::storage_bytes(rt.alloc(), size as usize) {
-        Ok(bytes) => tried(machine.plain_storage(bytes)),
-        Err(error) => unreadable(machine, error.into()),
+// Puts into the machine what had to be made or read for it first.
+fn put<T: Drop, F: FnOnce(Machine, T) -> Result<Machine, HandedBack<Machine>>>(
+    machine: Machine,
+    brought: Result<T, NotDone>,
+    place: F,
+) -> Result<Machine, Undone>
+    requires { F.IsAlwaysCallable place }
+{
+    match brought {
+        Ok(brought) => Ok(place(machine, brought)?),
+        Err(why) => Err(Undone { machine, why }),
     }
 }
 
-fn keyed_storage(rt: &HostRuntime, machine: Machine, given: Keys) -> After {
-    let keys = match begin::keys(rt.alloc(), given) {
-        Ok(keys) => keys,
-        Err(error) => return unreadable(machine, error.into()),
-    };
-    match begin::block_bytes(rt.alloc(), &keys) {
-        Ok(bytes) => tried(machine.keyed_storage(bytes, keys)),
-        Err(error) => unreadable(machine, error.into()),
-    }
+fn file(rt: &HostRuntime, name: &str) -> Result<Vec<u8>, NotDone> {
+    Ok(fs::read(rt, name)?)
 }
 
-fn fresh_pack(rt: &HostRuntime, machine: Machine, heads: u32) -> After {
-    match begin::pack_bytes(rt.alloc(), heads) {
-        Ok(bytes) => tried(machine.fresh_pack(bytes)),
-        Err(error) => unreadable(machine, error.into()),
-    }
-}
-
-fn fresh_track(machine: Machine, track: Track) -> After {
-    match machine.fresh_track(track) {
-        Ok(machine) => done(machine),
-        Err(NotFresh::NotPlain(machine)) => {
-            unreadable(machine, anyhow!("a chained pack has no fresh tracks"))
-        }
-        Err(NotFresh::Refused(back)) => tried(Err(back)),
-    }
-}
-
-// What a file holds.
-#[derive(Clone, Copy)]
-enum Held {
-    Storage,
-    PlainPack,
-    ChainedPack,
-}
-
-fn from_file(rt: &HostRuntime, machine: Machine, name: &str, held: Held) -> After {
-    let read: io::Result<Vec<u8>> = fs::read(rt, name);
-    match read {
-        Ok(bytes) => tried(match held {
-            Held::Storage => machine.plain_storage(bytes),
-            Held::PlainPack => machine.plain_pack(bytes),
-            Held::ChainedPack => machine.chained_pack(bytes),
-        }),
-        Err(error) => unreadable(machine, error.into()),
-    }
-}
-
-pub fn perform(rt: &HostRuntime, machine: Machine, line: SetUp<'_>) -> After {
+pub fn perform(rt: &HostRuntime, machine: Machine, line: SetUp<'_>) -> Result<Machine, Undone> {
+    let heap = rt.alloc();
     match line {
-        SetUp::StoragePlain { size } => plain_storage(rt, machine, size),
-        SetUp::StorageKeyed { keys } => keyed_storage(rt, machine, keys),
-        SetUp::StorageFile { name } => from_file(rt, machine, name, Held::Storage),
-        SetUp::PackPlain { name } => from_file(rt, machine, name, Held::PlainPack),
-        SetUp::PackChained { name } => from_file(rt, machine, name, Held::ChainedPack),
-        SetUp::PackFresh { heads } => fresh_pack(rt, machine, heads),
-        SetUp::Device { device } => done(machine.set_device(device)),
-        SetUp::Parity { address } => tried(machine.mark_parity(address)),
-        SetUp::Unparity { address } => tried(machine.lift_parity(address)),
-        SetUp::Defect(at) => tried(machine.mark_defect(defect(at))),
-        SetUp::Undefect(at) => tried(machine.lift_defect(defect(at))),
-        SetUp::Fresh { cylinder, head } => fresh_track(machine, track(cylinder, head)),
+        SetUp::StoragePlain { size } => {
+            let bytes = begin::storage_bytes(heap, size as usize);
+            put(machine, bytes, Machine::plain_storage)
+        }
+        SetUp::StorageKeyed { keys } => put(
+            machine,
+            begin::keyed_bytes(heap, keys),
+            |machine, (bytes, keys)| machine.keyed_storage(bytes, keys),
+        ),
+        SetUp::StorageFile { name } => put(machine, file(rt, name), Machine::plain_storage),
+        SetUp::PackPlain { name } => put(machine, file(rt, name), Machine::plain_pack),
+        SetUp::PackChained { name } => put(machine, file(rt, name), Machine::chained_pack),
+        SetUp::PackFresh { heads } => {
+            put(machine, begin::pack_bytes(heap, heads), Machine::fresh_pack)
+        }
+        SetUp::Device { device } => Ok(machine.set_device(device)),
+        SetUp::Parity { address } => Ok(machine.mark_parity(address)?),
+        SetUp::Unparity { address } => Ok(machine.lift_parity(address)?),
+        SetUp::Defect(at) => Ok(machine.mark_defect(defect(at))?),
+        SetUp::Undefect(at) => Ok(machine.lift_defect(defect(at))?),
+        SetUp::Fresh { cylinder, head } => Ok(machine.fresh_track(track(cylinder, head))?),
     }
 }

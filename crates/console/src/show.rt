@@ -1,21 +1,13 @@
 // What a service man wants to see of a track.
 use drive::drive::Drive;
 use drive::geometry::{PLACES, Track};
-use drive::sector::Condition;
-
-fn word(condition: Condition) -> &'static str {
-    match condition {
-        Condition::Good => "good",
-        Condition::Spoiled => "spoiled",
-    }
-}
 
 // One place: the ID with its condition, and the condition of the data.
 pub fn place<D: Drive>(rt: &HostRuntime, drive: &D, track: Track, place: u8) -> anyhow::Result<()> {
     let field = drive.id(track, place);
     let id = field.id;
-    let data = word(drive.data_condition(track, place));
-    print!(rt; "place {place:02}: id {} ", word(field.condition))?;
+    let data = drive.data_condition(track, place);
+    print!(rt; "place {place:02}: id {} ", field.condition)?;
     println!(rt;
         "{:02X} {:04X} {:02X} {:02X} data {data}",
         id.flag, id.cylinder, id.head, id.sector

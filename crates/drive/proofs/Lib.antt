@@ -1,2 +1,2 @@
-pub mod Searching
 pub mod SearchLaw
+pub mod Defective

@@ -1,138 +1,109 @@
--- What a search found, in the track's own words. Assumes nothing.
-use Rattle.std.proofs.Common.{◌≡◌, ℕ, zero, suc, ◌+◌, ◌<◌, Bool, true, false, cond, ◌&&◌, eqb, List, [], ◌∷◌, length, get_or, Some, None, Option, Result, sym, refl, ap, ◌∙◌, subst, ap₂, ⊎_elim, not-suc-le-zero, arith, MatchResult}
-use Rattle.std.proofs.lemmas.Bool.{and_parts, and_from, or_cases, or_left, or_right, eqb-true, eq-eqb, both_ways, false≢true, not-true, not_from_false}
+-- What a search found, in the track's own words, is the answer. Assumes nothing.
+use Rattle.std.proofs.Common.{◌≡◌, ℕ, zero, suc, ◌+◌, ◌<◌, Bool, true, false, not, ◌||◌, List, [], ◌∷◌, length, get_or, Some, None, Ok, Err, sym, refl, ap, ap₂, ◌∙◌, subst, ⊎_elim, zero-add, not-suc-le-zero, arith, rules, Decides}
+use Rattle.std.specs.Bool.{one_answer}
+use Rattle.std.proofs.Math.Bool.{or-false}
+use Rattle.std.proofs.lemmas.Bool.{cond-true, cond-false, cases_eq, or_cases, or_left, or_right, false≢true, not-true, not_from_false}
+use Rattle.std.proofs.lemmas.List.FromFn.{length-map-range_with_len, get_or-map-range_with_len}
+use Rattle.std.proofs.lemmas.List.Folds.{list_any_at, Any-from_list_any}
 use Rattle.drive.specs.Disk.{Disk, is_good, same_id}
-use Rattle.drive.specs.Search.{ids, matches, is_spoiled, first_from, some_of, told, searched, Holds, Found, Missing}
+use Rattle.drive.specs.Search.{ids, matches, is_spoiled, first_from, some_of, told, searched, Holds, Found, MissingBelow, Missing}
 use Rattle.drive.specs.declared.geometry.Track.{Track}
-use Rattle.drive.specs.declared.search.NoRecord.{NoRecord}
 use Rattle.drive.specs.declared.sector.IdField.{IdField}
 use Rattle.drive.specs.declared.sector.SectorId.{SectorId}
-use Rattle.drive.proofs.Searching.{length_ids, id_at}
 
 module _ {X : Type 0} (test : X → Bool) where
-  -- the first that passes, counted from n on
-  pub record First (n : ℕ) (xs : List X) (p : ℕ) : Type 0 where
-    pub index : ℕ
-    pub is : p ≡ n + index
-    pub within : index < length xs
-    pub passes : (z : X) → test (get_or xs index z) ≡ true
-    pub before : (k : ℕ) (z : X) → k < index → test (get_or xs k z) ≡ false
+  first_at : (n : ℕ) (xs : List X) (p : ℕ) → p < length xs → ((k : ℕ) (z : X) → k < p → test (get_or xs k z) ≡ false) → ((z : X) → test (get_or xs p z) ≡ true) → first_from test n xs ≡ Some (n + p)
+  first_at n [] p within before here = absurd (not-suc-le-zero within)
+  first_at n (x ∷ xs) zero within before here = cond-true (test x) _ _ (here x) ∙ ap Some (omega arith)
+  first_at n (x ∷ xs) (suc p) within before here =
+      cond-false (test x) _ _ (before 0 x (omega arith))
+      ∙ first_at (n + 1) xs p (omega arith) (λ k z below. before (suc k) z (omega arith)) here
+      ∙ ap Some (omega arith)
 
-  pub FirstOrNone : ℕ → List X → Option ℕ → Type 0
-  FirstOrNone n xs (Some p) = First n xs p
-  FirstOrNone n xs None = (k : ℕ) (z : X) → k < length xs → test (get_or xs k z) ≡ false
+  first_none : (n : ℕ) (xs : List X) → ((k : ℕ) (z : X) → k < length xs → test (get_or xs k z) ≡ false) → first_from test n xs ≡ None
+  first_none n [] none = refl
+  first_none n (x ∷ xs) none =
+      cond-false (test x) _ _ (none 0 x (omega arith)) ∙ first_none (n + 1) xs (λ k z below. none (suc k) z (omega arith))
 
-  pub first_law : (n : ℕ) (xs : List X) → FirstOrNone n xs (first_from test n xs)
-  unfolding first_from FirstOrNone
-  first_law n [] = λ k z below. absurd (not-suc-le-zero below)
-  first_law n (x ∷ xs) = go (test x) refl (first_from test (n + 1) xs) (first_law (n + 1) xs) where
-    later : (k : ℕ) (z : X) → test x ≡ false → ((j : ℕ) → suc j ≡ k → test (get_or xs j z) ≡ false) → test (get_or (x ∷ xs) k z) ≡ false
-    later zero z here rest = here
-    later (suc k) z here rest = rest k refl
+-- the test on IDs decides whether they are one
+decides_id : (x y : SectorId) → Decides (same_id x y) (x ≡ y)
+decides_id = search rules
 
-    go : (b : Bool) → test x ≡ b → (o : Option ℕ) → FirstOrNone (n + 1) xs o → FirstOrNone n (x ∷ xs) (cond b (Some n) o)
-    go true e o rest = record {
-      index = 0;
-      is = omega arith;
-      within = omega arith;
-      passes = λ z. e;
-      before = λ k z below. absurd (not-suc-le-zero below);
+module _ (d : Disk) (t : Track) where
+  -- a track has sixty IDs, and each is its place's
+  length_ids : length (ids d t) ≡ 60
+  unfolding ids
+  length_ids = length-map-range_with_len (λ p. (d.sector t p).id) 0 60
+
+  id_at : (p : ℕ) (z : IdField) → p < 60 → get_or (ids d t) p z ≡ (d.sector t p).id
+  unfolding ids
+  id_at p z small = get_or-map-range_with_len (λ q. (d.sector t q).id) 0 60 p p z small (zero-add p)
+
+  module _ (argument : SectorId) where
+    holds_decides : (q : ℕ) → Decides (matches argument (d.sector t q).id) (Holds d t argument q)
+    holds_decides q = search rules
+
+    misses : (q : ℕ) (z : IdField) → q < 60 → (Holds d t argument q → ⊥) → matches argument (get_or (ids d t) q z) ≡ false
+    misses q z small none =
+        ap (matches argument) (id_at q z small)
+        ∙ one_answer _ false (holds_decides q) (λ e. absurd (false≢true e), λ h. absurd (none h))
+
+    pub found_answer : (p : ℕ) → Found d t argument p → Ok p ≡ searched argument (ids d t)
+    found_answer p f =
+        let small = f.place in
+        let long = length_ids in
+        ap (told (some_of is_spoiled (ids d t))) (sym (first_at (matches argument) 0 (ids d t) p (omega arith)
+        (λ q z below. misses q z (omega arith) (f.first q below))
+        (λ z. ap (matches argument) (id_at p z small) ∙ (holds_decides p).1 f.here) ∙ ap Some (zero-add p)))
+
+    spoiled_decides : Decides (some_of is_spoiled (ids d t)) ((q : ℕ) × (q < 60) × (is_good (d.sector t q).id.condition ≡ false))
+    spoiled_decides =
+        let long = length_ids in (
+          λ e.
+              let some = Any-from_list_any is_spoiled (ids d t) e in
+              let q = some.0 in
+              let within = some.2 in
+              let small : q < 60 = omega arith in
+              (q, small, not-true _ (ap is_spoiled (sym (id_at q some.1 small) ∙ some.3) ∙ some.4)),
+          λ s.
+              let q = s.0 in
+              let small = s.1 in
+              let z = (d.sector t q).id in
+              list_any_at is_spoiled (ids d t) q z (omega arith) (ap is_spoiled (id_at q z small) ∙ not_from_false _ s.2),
+        )
+
+    pub missing_answer : (passed : Bool) → Missing d t argument passed → Err record { passed_spoiled = passed } ≡ searched argument (ids d t)
+    missing_answer passed m =
+        let long = length_ids in
+        ap₂ told (one_answer passed _ m.spoiled spoiled_decides)
+        (sym (first_none (matches argument) 0 (ids d t) (λ q z below. misses q z (omega arith) (m.none q (omega arith)))))
+
+    -- one place further
+    passes : (i : ℕ) (passed now : Bool) → MissingBelow i d t argument passed → (Holds d t argument i → ⊥) → now ≡ (passed || not (is_good (d.sector t i).id.condition)) → MissingBelow (i + 1) d t argument now
+    passes i passed now m miss is = record {
+      none = λ q below h. ⊎_elim (λ same. miss (subst (Holds d t argument) same h)) (λ other. m.none q (omega arith) h) (cases_eq q i);
+      spoiled = (
+        λ e. ⊎_elim
+            (λ before. let s = m.spoiled.0 before in let below = s.1 in (s.0, omega arith, s.2))
+            (λ here. (i, omega arith, not-true _ here))
+            (or_cases passed _ (sym is ∙ e)),
+        λ s.
+            let below = s.1 in
+            is ∙ ⊎_elim
+            (λ same. or_right passed _ (not_from_false _ (ap (λ q. is_good (d.sector t q).id.condition) (sym same) ∙ s.2)))
+            (λ other. or_left passed _ (m.spoiled.1 (s.0, omega arith, s.2)))
+            (cases_eq s.0 i),
+      );
     }
-    go false e (Some p) rest = record {
-      index = suc rest.index;
-      is = let i = rest.is in omega arith;
-      within = let w = rest.within in omega arith;
-      passes = rest.passes;
-      before = λ k z below. later k z e (λ j s. rest.before j z (omega arith));
-    }
-    go false e None rest = λ k z below. later k z e (λ j s. rest j z (omega arith))
 
-  -- one that passes makes it true, and none makes it false
-  pub some_from : (xs : List X) (k : ℕ) (z : X) → k < length xs → test (get_or xs k z) ≡ true → some_of test xs ≡ true
-  unfolding some_of
-  some_from [] k z below pass = absurd (not-suc-le-zero below)
-  some_from (x ∷ xs) zero z below pass = or_left (test x) (some_of test xs) pass
-  some_from (x ∷ xs) (suc k) z below pass = or_right (test x) (some_of test xs) (some_from xs k z (omega arith) pass)
+    module _ (i : ℕ) (passed : Bool) (m : MissingBelow i d t argument passed) (f : IdField) (here : f ≡ (d.sector t i).id) where
+      pub passes_spoiled : false ≡ is_good f.condition → MissingBelow (i + 1) d t argument true
+      passes_spoiled bad =
+          let bad' : is_good (d.sector t i).id.condition ≡ false = ap (λ (x : IdField). is_good x.condition) (sym here) ∙ sym bad in
+          passes i passed true m (λ h. absurd (false≢true (sym bad' ∙ h.good))) (sym (or_right passed _ (not_from_false _ bad')))
 
-  pub some_at : (xs : List X) → some_of test xs ≡ true → (k : ℕ) × (k < length xs) × ((z : X) → test (get_or xs k z) ≡ true)
-  unfolding some_of
-  some_at [] e = absurd (false≢true e)
-  some_at (x ∷ xs) e =
-      ⊎_elim
-      (λ here. (0, omega arith, λ z. here))
-      (λ rest. let found = some_at xs rest in let w = found.1 in (suc found.0, omega arith, found.2))
-      (or_cases (test x) (some_of test xs) e)
-
-id_same : (x y : SectorId) → same_id x y ≡ true → x ≡ y
-id_same x y e =
-    let flags = eqb x.flag y.flag in
-    let cylinders = eqb x.cylinder y.cylinder in
-    let heads = eqb x.head y.head in
-    let a = and_parts (flags && cylinders && heads) (eqb x.sector y.sector) e in
-    let b = and_parts (flags && cylinders) heads a.0 in
-    let c = and_parts flags cylinders b.0 in
-    ap₂ (λ (f k : ℕ). record { flag = f; cylinder = k; head = x.head; sector = x.sector })
-    (eqb-true x.flag y.flag c.0) (eqb-true x.cylinder y.cylinder c.1)
-    ∙ ap₂ (λ (h s : ℕ). record { flag = y.flag; cylinder = y.cylinder; head = h; sector = s })
-    (eqb-true x.head y.head b.1) (eqb-true x.sector y.sector a.1)
-
-same_id_lem : (x : SectorId) → same_id x x ≡ true
-same_id_lem x =
-    and_from _ _
-    (and_from _ _ (and_from _ _ (eq-eqb x.flag x.flag refl) (eq-eqb x.cylinder x.cylinder refl)) (eq-eqb x.head x.head refl))
-    (eq-eqb x.sector x.sector refl)
-
-module _ (d : Disk) (t : Track) (argument : SectorId) where
-  matches_from : (q : ℕ) → Holds d t argument q → matches argument (d.sector t q).id ≡ true
-  matches_from q h =
-      and_from (is_good (d.sector t q).id.condition) (same_id (d.sector t q).id.id argument) h.good
-      (ap (λ (x : SectorId). same_id x argument) h.same ∙ same_id_lem argument)
-
-  holds_from : (q : ℕ) → matches argument (d.sector t q).id ≡ true → Holds d t argument q
-  holds_from q m =
-      let parts = and_parts (is_good (d.sector t q).id.condition) (same_id (d.sector t q).id.id argument) m in
-      record { good = parts.0; same = id_same (d.sector t q).id.id argument parts.1 }
-
-  no_hold : (q : ℕ) → q < 60 → ((z : IdField) → matches argument (get_or (ids d t) q z) ≡ false) → Holds d t argument q → ⊥
-  no_hold q small miss h =
-      both_ways (matches argument (d.sector t q).id) (ap (matches argument) (sym (id_at d t q (d.sector t q).id small)) ∙ miss (d.sector t q).id) (matches_from q h)
-
-  pub search_law : MatchResult (searched argument (ids d t)) (λ p. Found d t argument p) (λ e. Missing d t argument e.passed_spoiled)
-  unfolding FirstOrNone
-  search_law = go (first_from (matches argument) 0 (ids d t)) (first_law (matches argument) 0 (ids d t)) where
-    go : (o : Option ℕ) → FirstOrNone (matches argument) 0 (ids d t) o → MatchResult (told (some_of is_spoiled (ids d t)) o) (λ p. Found d t argument p) (λ e. Missing d t argument e.passed_spoiled)
-    go (Some p) f =
-        let n = length_ids d t in
-        let at : p ≡ f.index = let i = f.is in omega arith in
-        let small : p < 60 = let w = f.within in omega arith in
-        record {
-          place = small;
-          here = holds_from p (ap (matches argument) (sym (id_at d t p (d.sector t p).id small))
-              ∙ ap (λ (k : ℕ). matches argument (get_or (ids d t) k (d.sector t p).id)) at ∙ f.passes (d.sector t p).id);
-          first = λ q below. no_hold q (omega arith) (λ z. f.before q z (omega arith));
-        }
-    go None f =
-        let n = length_ids d t in
-        record {
-          none = λ q small. no_hold q small (λ z. f q z (omega arith));
-          spoiled = (
-            λ e.
-                let found = some_at is_spoiled (ids d t) e in
-                let q = found.0 in
-                let small : q < 60 = let w = found.1 in omega arith in (
-                  q,
-                  small,
-                  not-true (is_good (d.sector t q).id.condition)
-                      (ap is_spoiled (sym (id_at d t q (d.sector t q).id small)) ∙ found.2 (d.sector t q).id),
-                ),
-            λ s.
-                let q = s.0 in
-                let f' = (d.sector t q).id in
-                some_from is_spoiled (ids d t) q f' (let w = s.1 in omega arith)
-                (ap is_spoiled (id_at d t q f' s.1) ∙ not_from_false (is_good f'.condition) s.2),
-          );
-        }
-
-  -- the same of an answer that is the search's
-  pub answer_law : (r : Result ℕ NoRecord) → r ≡ searched argument (ids d t) → MatchResult r (λ p. Found d t argument p) (λ e. Missing d t argument e.passed_spoiled)
-  answer_law r is = subst (λ (x : Result ℕ NoRecord). MatchResult x (λ p. Found d t argument p) (λ e. Missing d t argument e.passed_spoiled)) (sym is) search_law
+      pub passes_other : true ≡ is_good f.condition → false ≡ same_id f.id argument → MissingBelow (i + 1) d t argument passed
+      passes_other good other =
+          passes i passed passed m
+          (λ h. absurd (false≢true (other ∙ (decides_id f.id argument).1 (ap (λ (x : IdField). x.id) here ∙ h.same))))
+          (sym (ap (λ (b : Bool). passed || not b) (ap (λ (x : IdField). is_good x.condition) (sym here) ∙ sym good) ∙ or-false passed))

@@ -1,5 +1,8 @@
 -- What a drive means.
 --   is_good, same_id, same_track   tests on conditions, IDs and tracks
+--   condition_word      a condition as it is printed
+--   condition_of        a condition by its byte: 0 is good, every other spoiled
+--   condition_byte      a condition as a byte: 0 good, 1 spoiled
 --   DataField, Sector   the data of a place with its condition; a place's ID and data
 --   Disk                the heads, and the sector at each place of each track
 --   on_drive            whether a place of a track is on a drive: cylinders 0 to 302, its heads, places 0 to 59
@@ -10,7 +13,7 @@
 --   Reads               what an accepted read gives
 --   with_data, replaced   a sector with new data, which are good; a drive with the data of one place replaced
 --   written             the drive after a write: the data of that place alone is replaced, and good
-use Rattle.std.specs.Prelude.{◌≡◌, ℕ, ◌≤◌, Bool, true, false, cond, ◌&&◌, List, length, replicate, Ok, Err, Result, ◌==◌, nat_lt}
+use Rattle.std.specs.Prelude.{◌≡◌, ℕ, ◌≤◌, Bool, true, false, cond, ◌&&◌, List, length, replicate, Ok, Err, Result, ◌==◌, nat_lt, codes}
 use Rattle.basics.specs.declared.refusal.Refusal.{Refusal}
 use Rattle.basics.specs.declared.refusal.Refusal.TheVariants.{NoSuchPlace}
 use Rattle.drive.specs.declared.geometry.Track.{Track}
@@ -23,8 +26,19 @@ abbrev pub is_good : Condition → Bool
 is_good Good = true
 is_good Spoiled = false
 
+abbrev pub condition_word : Condition → List ℕ
+condition_word Good = codes "good"
+condition_word Spoiled = codes "spoiled"
+
+abbrev pub condition_of : ℕ → Condition
+condition_of b = cond (b == 0) Good Spoiled
+
+abbrev pub condition_byte : Condition → ℕ
+condition_byte Good = 0
+condition_byte Spoiled = 1
+
 abbrev pub same_id : SectorId → SectorId → Bool
-same_id x y = x.flag == y.flag && x.cylinder == y.cylinder && x.head == y.head && x.sector == y.sector
+same_id x y = x.flag == y.flag && (x.cylinder == y.cylinder && (x.head == y.head && x.sector == y.sector))
 
 abbrev pub same_track : Track → Track → Bool
 same_track t u = t.cylinder == u.cylinder && t.head == u.head

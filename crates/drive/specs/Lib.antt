@@ -1,4 +1,3 @@
 pub mod Disk
 pub mod Search
 pub mod Defects
-pub mod Defective

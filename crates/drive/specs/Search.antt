@@ -8,9 +8,10 @@
 --   searched     the first place that matches; where there is none, whether a spoiled ID was passed
 --   Holds        a place's ID is good and equals the argument
 --   Found        what a place found is: it holds the argument, and none before it does
---   Missing      what is known where none was found, with what is told of spoiled IDs
-use Rattle.std.specs.Prelude.{◌≡◌, ℕ, ◌+◌, ◌<◌, Bool, true, false, cond, not, ◌&&◌, ◌||◌, List, [], ◌∷◌, map, Some, None, Ok, Err, Decides, Option, Result}
-use Rattle.std.specs.List.{range_with_len}
+--   MissingBelow   what is known where none of the first places has the argument, with what is told of spoiled IDs
+--   Missing      the same of all sixty
+use Rattle.std.specs.Prelude.{◌≡◌, ℕ, ◌<◌, Bool, true, false, not, ◌&&◌, List, map, Some, None, Ok, Err, Decides, Option, Result}
+use Rattle.std.specs.List.{range_with_len, list_any, position_from}
 use Rattle.drive.specs.Disk.{Disk, is_good, same_id}
 use Rattle.drive.specs.declared.geometry.Track.{Track}
 use Rattle.drive.specs.declared.search.NoRecord.{NoRecord}
@@ -26,13 +27,11 @@ matches argument f = is_good f.condition && same_id f.id argument
 abbrev pub is_spoiled : IdField → Bool
 is_spoiled f = not (is_good f.condition)
 
-unfoldable pub first_from : {X : Type 0} → (X → Bool) → ℕ → List X → Option ℕ
-first_from test n [] = None
-first_from test n (x ∷ xs) = cond (test x) (Some n) (first_from test (n + 1) xs)
+abbrev pub first_from : {X : Type 0} → (X → Bool) → ℕ → List X → Option ℕ
+first_from = position_from
 
-unfoldable pub some_of : {X : Type 0} → (X → Bool) → List X → Bool
-some_of test [] = false
-some_of test (x ∷ xs) = test x || some_of test xs
+abbrev pub some_of : {X : Type 0} → (X → Bool) → List X → Bool
+some_of = list_any
 
 abbrev pub told : Bool → Option ℕ → Result ℕ NoRecord
 told spoiled (Some p) = Ok p
@@ -50,7 +49,10 @@ pub record Found (d : Disk) (t : Track) (argument : SectorId) (p : ℕ) : Type 0
   pub here : Holds d t argument p
   pub first : (q : ℕ) → q < p → Holds d t argument q → ⊥
 
-pub record Missing (d : Disk) (t : Track) (argument : SectorId) (passed : Bool) : Type 0 where
-  pub none : (q : ℕ) → q < 60 → Holds d t argument q → ⊥
-  -- one of the sixty IDs is spoiled
-  pub spoiled : Decides passed ((q : ℕ) × (q < 60) × (is_good (d.sector t q).id.condition ≡ false))
+pub record MissingBelow (n : ℕ) (d : Disk) (t : Track) (argument : SectorId) (passed : Bool) : Type 0 where
+  pub none : (q : ℕ) → q < n → Holds d t argument q → ⊥
+  -- one of the IDs is spoiled
+  pub spoiled : Decides passed ((q : ℕ) × (q < n) × (is_good (d.sector t q).id.condition ≡ false))
+
+abbrev pub Missing : Disk → Track → SectorId → Bool → Type 0
+Missing = MissingBelow 60

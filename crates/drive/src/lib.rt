@@ -5,5 +5,6 @@ pub mod defect;
 pub mod defect_layer;
 pub mod drive;
 pub mod geometry;
+mod lent;
 pub mod search;
 pub mod sector;

@@ -1,8 +1,10 @@
 // The reasons in status word 1 that the card gives.
-ghost use Rattle.std.specs.Prelude.{◌≡◌, ◌*◌, ◌^◌, not, ◌==◌, bit_and};
+ghost use Rattle.std.specs.Prelude.{◌≡◌, ◌*◌, ◌^◌, ◌<◌};
 ghost use Rattle.explain.specs.Bits.{reason_mask, ReasonsExplained};
 
-#[derive(Clone, Copy)]
+use crate::bit::Bit;
+
+#[derive(Clone, Copy, PartialEq, Eq, Debug)]
 pub enum Reason {
     EndOfTrack,
     NoRecordFound,
@@ -20,24 +22,19 @@ pub const REASONS: [Reason; 5] = [
     Reason::NotReady,
 ];
 
-impl Reason {
-    // the bit in the word
-    pub fn mask(self) -> u16
-        ensures value { result ≡ reason_mask self }
-        ensures explained { ReasonsExplained }
-    {
-        match self {
-            Reason::EndOfTrack => 0x8000,
-            Reason::NoRecordFound => 0x1000,
-            Reason::DataCheck => 0x0080,
-            Reason::SeekCheck => 0x0040,
-            Reason::NotReady => 0x0001,
-        }
-    }
+impl Bit for Reason {
+    const HIGHEST: u16 = 0x8000;
 
-    // its number, counted from the highest
-    pub fn bit(self) -> u8
-        ensures { reason_mask self * 2 ^ result ≡ 0x8000 }
+    ghost HIGHEST = { 0x8000 };
+
+    const DIGITS: usize = 4;
+
+    ghost mask_of = { reason_mask };
+
+    fn bit(self) -> u8
+        ensures value { reason_mask self * 2 ^ result ≡ 0x8000 }
+        ensures in_word { result < 16 }
+        ensures explained { ReasonsExplained }
     {
         match self {
             Reason::EndOfTrack => 0,
@@ -48,14 +45,7 @@ impl Reason {
         }
     }
 
-    // whether the word has it
-    pub fn is_in(self, word: u16) -> bool
-        ensures { result ≡ not (bit_and word (reason_mask self) == 0) }
-    {
-        word & self.mask() != 0
-    }
-
-    pub fn meaning(self) -> &'static str {
+    fn meaning(self) -> &'static str {
         match self {
             Reason::EndOfTrack => "end of track: sector 59 is done and bytes remain",
             Reason::NoRecordFound =>
@@ -68,8 +58,7 @@ impl Reason {
         }
     }
 
-    // what to do next
-    pub fn advice(self) -> &'static str {
+    fn advice(self) -> &'static str {
         match self {
             Reason::EndOfTrack => "go on at sector 0 of the next track with the count that remains",
             Reason::NoRecordFound =>

@@ -1,8 +1,10 @@
 // The bits of the interrupt status byte that the card sets.
-ghost use Rattle.std.specs.Prelude.{◌≡◌, ◌*◌, ◌^◌, not, ◌==◌, bit_and};
+ghost use Rattle.std.specs.Prelude.{◌≡◌, ◌*◌, ◌^◌, ◌<◌};
 ghost use Rattle.explain.specs.Bits.{byte_mask, ByteExplained};
 
-#[derive(Clone, Copy)]
+use crate::bit::Bit;
+
+#[derive(Clone, Copy, PartialEq, Eq, Debug)]
 pub enum StatusBit {
     StatusAvailable,
     SpecificationCheck,
@@ -20,24 +22,19 @@ pub const STATUS_BITS: [StatusBit; 5] = [
     StatusBit::ProtectCheck,
 ];
 
-impl StatusBit {
-    // the bit in the byte
-    pub fn mask(self) -> u8
-        ensures value { result ≡ byte_mask self }
-        ensures explained { ByteExplained }
-    {
-        match self {
-            StatusBit::StatusAvailable => 0x80,
-            StatusBit::SpecificationCheck => 0x10,
-            StatusBit::StorageDataCheck => 0x08,
-            StatusBit::InvalidAddress => 0x04,
-            StatusBit::ProtectCheck => 0x02,
-        }
-    }
+impl Bit for StatusBit {
+    const HIGHEST: u16 = 0x80;
 
-    // its number, counted from the highest
-    pub fn bit(self) -> u8
-        ensures { byte_mask self * 2 ^ result ≡ 0x80 }
+    ghost HIGHEST = { 0x80 };
+
+    const DIGITS: usize = 2;
+
+    ghost mask_of = { byte_mask };
+
+    fn bit(self) -> u8
+        ensures value { byte_mask self * 2 ^ result ≡ 0x80 }
+        ensures in_word { result < 16 }
+        ensures explained { ByteExplained }
     {
         match self {
             StatusBit::StatusAvailable => 0,
@@ -48,14 +45,7 @@ impl StatusBit {
         }
     }
 
-    // whether the byte has it
-    pub fn is_in(self, byte: u8) -> bool
-        ensures { result ≡ not (bit_and byte (byte_mask self) == 0) }
-    {
-        byte & self.mask() != 0
-    }
-
-    pub fn meaning(self) -> &'static str {
+    fn meaning(self) -> &'static str {
         match self {
             StatusBit::StatusAvailable => "the drive ended the operation; status word 1 tells why",
             StatusBit::SpecificationCheck => "specification check: a control block is not lawful",
@@ -66,8 +56,7 @@ impl StatusBit {
         }
     }
 
-    // what to do next
-    pub fn advice(self) -> &'static str {
+    fn advice(self) -> &'static str {
         match self {
             StatusBit::StatusAvailable => "read the reasons in status word 1",
             StatusBit::SpecificationCheck => {

@@ -1,17 +1,22 @@
 // An interrupt status byte and the four status words, told line by line.
+use crate::bit::Bit;
 use crate::reason::REASONS;
 use crate::status_bit::STATUS_BITS;
 use std::io;
 use std::io::Write;
 
-// bits that the card never sets
-const NEVER_IN_BYTE: u8 = 0x61;
-
-const NEVER_IN_WORD_1: u16 = 0x6F3E;
-
-fn bit<W: Write>(out: &mut W, bit: u8, meaning: &str, advice: &str) -> io::Result<()> {
-    writeln!(out, "  bit {bit}: {meaning}")?;
-    writeln!(out, "         next: {advice}")
+// Tells the bits that are set: each that is explained, then the others together.
+fn bits<W: Write, B: Bit>(out: &mut W, explained: &[B], word: u16) -> io::Result<()> {
+    for bit in explained.iter().filter(|bit| bit.is_in(word)) {
+        writeln!(out, "  bit {}: {}", bit.bit(), bit.meaning())?;
+        writeln!(out, "         next: {}", bit.advice())?;
+    }
+    let never = explained.iter().fold(word, |rest, bit| rest & !bit.mask());
+    if never != 0 {
+        let digits = B::DIGITS;
+        writeln!(out, "  bits {never:0digits$X}: this card never sets them")?;
+    }
+    Ok(())
 }
 
 // Tells the bits of the interrupt status byte.
@@ -23,16 +28,7 @@ pub fn status_byte<W: Write>(out: &mut W, byte: u8) -> io::Result<()> {
             "  no exception: device end, or attention because the unit turned ready"
         )?;
     }
-    for set in STATUS_BITS {
-        if set.is_in(byte) {
-            bit(out, set.bit(), set.meaning(), set.advice())?;
-        }
-    }
-    let never = byte & NEVER_IN_BYTE;
-    if never != 0 {
-        writeln!(out, "  bits {never:02X}: this card never sets them")?;
-    }
-    Ok(())
+    bits(out, &STATUS_BITS, u16::from(byte))
 }
 
 // Tells the reasons in status word 1.
@@ -41,16 +37,7 @@ fn reasons<W: Write>(out: &mut W, word: u16) -> io::Result<()> {
     if word == 0 {
         writeln!(out, "  none")?;
     }
-    for reason in REASONS {
-        if reason.is_in(word) {
-            bit(out, reason.bit(), reason.meaning(), reason.advice())?;
-        }
-    }
-    let never = word & NEVER_IN_WORD_1;
-    if never != 0 {
-        writeln!(out, "  bits {never:04X}: this card never sets them")?;
-    }
-    Ok(())
+    bits(out, &REASONS, word)
 }
 
 // Tells the four status words.

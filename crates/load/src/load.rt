@@ -3,6 +3,7 @@ use crate::part::{Calls, Part};
 use answers::answer::Answer;
 use anyhow::anyhow;
 use card::call::Call;
+use card::surroundings::Surroundings;
 use drive::geometry::Track;
 use explain::told;
 use pack::plain_pack::PlainPack;
@@ -17,7 +18,7 @@ use storage::plain::Plain;
 use storage::storage::Storage;
 
 // dye, water, salt, temperature, minutes, lot
-const RECIPE: [u16; 6] = [0x01F4, 0x0FA0, 0x0078, 0x0062, 0x002D, 0x1A2B];
+pub const RECIPE: [u16; 6] = [0x01F4, 0x0FA0, 0x0078, 0x0062, 0x002D, 0x1A2B];
 
 const TRACK: Track = Track {
     cylinder: 12,
@@ -84,62 +85,48 @@ fn badly(calls: &mut Calls) -> anyhow::Result<()> {
 
 // A pack of two heads in memory, with one track fresh.
 fn fresh_pack(heap: Global) -> anyhow::Result<PlainPack> {
-    let Ok(mut pack) = PlainPack::open(vec![in heap; 0u8; TWO_HEADS_BYTES]?) else {
-        return Err(anyhow!("the pack was refused"));
-    };
-    match pack.fresh_track(TRACK) {
-        Ok(()) => Ok(pack),
-        Err(_) => Err(anyhow!("the track is not on the drive")),
-    }
+    let bytes = vec![in heap; 0u8; TWO_HEADS_BYTES]?;
+    let mut pack = PlainPack::open(bytes).map_err(|_| anyhow!("the pack was refused"))?;
+    pack.fresh_track(TRACK)
+        .map_err(|_| anyhow!("the track is not on the drive"))?;
+    Ok(pack)
 }
 
-fn empty_storage(heap: Global) -> anyhow::Result<Plain> {
-    match Plain::new(vec![in heap; 0u8; 4096]?) {
-        Ok(storage) => Ok(storage),
-        Err(_) => Err(anyhow!("the storage was refused")),
-    }
+// Plain storage of 4,096 bytes, all words zero.
+pub fn empty_storage(heap: Global) -> anyhow::Result<Plain> {
+    Plain::new(vec![in heap; 0u8; 4096]?).map_err(|_| anyhow!("the storage was refused"))
 }
 
 // the last interrupt's status byte, the high byte of its ID word
-fn status_byte(entries: &[Entry], below: usize) -> u8 {
-    let mut byte = 0;
-    for (i, entry) in entries.iter().enumerate() {
-        if i < below {
-            if let Answer::Interrupt { waiting } = entry.answer {
-                byte = (waiting.id_word / 256) as u8;
-            }
+fn last_status_byte(entries: &[Entry]) -> Option<u8> {
+    entries.iter().rev().find_map(|entry| match entry.answer {
+        Answer::Interrupt { waiting } => {
+            let [status, _device] = waiting.id_word.to_be_bytes();
+            Some(status)
         }
-    }
-    byte
+        _ => None,
+    })
 }
 
-// One call with its answer; stores are many and all alike, and are told as a number.
+fn is_store(entry: &Entry) -> bool {
+    matches!(entry.call, Call::Store { .. })
+}
+
+// One call with its answer.
 fn tell<W: Write>(out: &mut W, entry: &Entry) -> io::Result<()> {
     let call = entry.call;
     let answer = entry.answer;
-    let line = CallLine(call);
-    writeln!(out, "    {line}")?;
-    let line = AnswerLine { call, answer };
-    writeln!(out, "        {line}")
+    writeln!(out, "    {}", CallLine(call))?;
+    writeln!(out, "        {}", AnswerLine { call, answer })
 }
 
-fn tell_part<W: Write>(out: &mut W, part: Part, entries: &[Entry], end: usize) -> io::Result<()> {
-    writeln!(out, "{}", part.title)?;
-    let mut stored = 0u32;
-    for (i, entry) in entries.iter().enumerate() {
-        if i >= part.first && i < end {
-            if let Call::Store {
-                address: _,
-                key: _,
-                word: _,
-            } = entry.call
-            {
-                stored = stored.saturating_add(1);
-            } else {
-                tell(out, entry)?;
-            }
-        }
+// The calls of a part; stores are many and all alike, and are told as a number.
+fn tell_part<W: Write>(out: &mut W, title: &str, entries: &[Entry]) -> io::Result<()> {
+    writeln!(out, "{title}")?;
+    for entry in entries.iter().filter(|entry| !is_store(entry)) {
+        tell(out, entry)?;
     }
+    let stored = entries.iter().filter(|entry| is_store(entry)).count();
     if stored > 0 {
         writeln!(out, "    {stored} words stored")?;
     }
@@ -148,51 +135,46 @@ fn tell_part<W: Write>(out: &mut W, part: Part, entries: &[Entry], end: usize) -
 
 fn tell_parts<W: Write>(out: &mut W, calls: &Calls) -> io::Result<()> {
     let entries = calls.entries.as_slice();
-    for (i, part) in calls.parts.iter().enumerate() {
-        let mut end = entries.len();
-        if let Some(next) = calls.parts.get(i.saturating_add(1)) {
-            end = next.first;
-        }
-        tell_part(out, *part, entries, end)?;
+    let ends = calls.parts.iter().skip(1).map(|next| next.first);
+    for (part, end) in calls.parts.iter().zip(ends.chain([entries.len()])) {
+        let of_part = entries.get(part.first..end).unwrap_or_default();
+        tell_part(out, part.title, of_part)?;
     }
     Ok(())
 }
 
-// the word at an address, zero where there is none
-fn word(storage: &Plain, address: u32) -> u16 {
-    match storage.load(address, 0) {
-        Ok(word) => word,
-        Err(_) => 0,
+// The words from an address on.
+fn words<const N: usize>(storage: &Plain, address: u32) -> anyhow::Result<[u16; N]> {
+    let mut words = [0; N];
+    for (word, address) in words.iter_mut().zip((address..).step_by(2)) {
+        *word = storage
+            .load(address, 0)
+            .map_err(|fault| anyhow!("a word can't be read: {fault}"))?;
     }
+    Ok(words)
 }
 
-// How many words of the recipe came back as they were entered.
-fn alike(storage: &Plain) -> u32 {
-    let mut count = 0u32;
-    for i in 0..6u32 {
-        if word(storage, READ_BACK + 2 * i) == word(storage, ENTERED + 2 * i) {
-            count = count.saturating_add(1);
-        }
-    }
-    count
-}
-
-fn tell_end<W: Write>(out: &mut W, storage: &Plain, entries: &[Entry]) -> io::Result<()> {
+fn tell_end<W: Write>(out: &mut W, storage: &Plain, entries: &[Entry]) -> anyhow::Result<()> {
+    let entered: [u16; 6] = words(storage, ENTERED)?;
+    let back: [u16; 6] = words(storage, READ_BACK)?;
+    let alike = entered
+        .iter()
+        .zip(&back)
+        .filter(|(word, back)| word == back)
+        .count();
     writeln!(
         out,
-        "the recipe was read back: {} of 6 words are alike",
-        alike(storage)
+        "the recipe was read back: {alike} of 6 words are alike"
     )?;
     writeln!(out)?;
     writeln!(out, "what the last exception says in plain words")?;
-    let words = [
-        word(storage, STATUS),
-        word(storage, STATUS + 2),
-        word(storage, STATUS + 4),
-        word(storage, STATUS + 6),
-    ];
-    told::status_byte(out, status_byte(entries, entries.len().saturating_sub(3)))?;
-    told::status_words(out, words)
+    // the last three calls ask for the status words
+    let (asked, _) = entries.split_at(entries.len().saturating_sub(3));
+    if let Some(byte) = last_status_byte(asked) {
+        told::status_byte(out, byte)?;
+    }
+    told::status_words(out, words(storage, STATUS)?)?;
+    Ok(())
 }
 
 // Performs the load as one run over a pack and a storage in memory, and tells it.
@@ -203,10 +185,12 @@ pub fn perform<W: Write>(heap: Global, out: &mut W) -> anyhow::Result<()> {
     };
     well(&mut calls)?;
     badly(&mut calls)?;
-    let mut drive = fresh_pack(heap)?;
-    let mut storage = empty_storage(heap)?;
-    let _card = run(0, &mut drive, &mut storage, calls.entries.as_mut_slice());
+    let mut around = Surroundings {
+        device: 0,
+        drive: fresh_pack(heap)?,
+        storage: empty_storage(heap)?,
+    };
+    let _card = run(&mut around, calls.entries.as_mut_slice());
     tell_parts(out, &calls)?;
-    tell_end(out, &storage, calls.entries.as_slice())?;
-    Ok(())
+    tell_end(out, &around.storage, calls.entries.as_slice())
 }

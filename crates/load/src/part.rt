@@ -4,6 +4,7 @@ use card::call::Call;
 use runs::entry::Entry;
 
 // A part of a load: its title, and the number of its first call.
+// kept: one run takes its entries in one slice, so a part can't hold its own
 #[derive(Clone, Copy)]
 pub struct Part {
     pub title: &'static str,
@@ -33,21 +34,19 @@ impl Calls {
 
     // words stored by the processor, from an address on
     pub fn words(&mut self, address: u32, words: &[u16]) -> anyhow::Result<()> {
-        let mut address = address;
-        for word in words {
+        for (address, &word) in (address..).step_by(2).zip(words) {
             self.ask(Call::Store {
                 address,
                 key: 0,
-                word: *word,
+                word,
             })?;
-            address = address.saturating_add(2);
         }
         Ok(())
     }
 
     pub fn command(&mut self, byte: u8, second: u16) -> anyhow::Result<()> {
         self.ask(Call::Command {
-            first: byte as u16 * 256,
+            first: u16::from_be_bytes([byte, 0]),
             second,
             parity: true,
         })

@@ -5,7 +5,7 @@ use Rattle.std.proofs.lemmas.Bool.{cond-true, cond-false, and_parts, and_from, e
 use Rattle.drive.specs.Disk.{Disk, on_drive, same_track}
 use Rattle.drive.specs.declared.geometry.Track.{Track}
 use Rattle.pack.specs.Fresh.{fresh_sector, refreshed}
-use Rattle.pack.specs.Numbers.{on_parts, on_from}
+use Rattle.pack.proofs.Numbers.{on_parts, on_from}
 use Rattle.machine.specs.Freshness.{fresh_up_to, AllFresh}
 use Rattle.machine.specs.Tracks.{track_at}
 

@@ -2,12 +2,13 @@
 use Rattle.std.proofs.Common.{◌≡◌, ℕ, zero, suc, ◌+◌, ◌*◌, ◌/◌, ◌%◌, ◌<◌, ◌≤◌, Bool, true, false, cond, List, [], ◌∷◌, ◌++◌, length, get_or, drop, replicate, Ok, Err, Result, sym, refl, ap, ◌∙◌, ap₂, add-zero, mod-eq_of_lt, mul_assoc, add-mul, add-one, arith, drop-cons}
 use native.Mathlib.Nat.{mod-mod, mod-add-mod, add-mod-mod, add-mod, div-add-mod, mul-add-mod_self_left}
 use Rattle.std.proofs.lemmas.List.{drop_all}
+use Rattle.std.specs.Int.{to_be_bytes, w16}
 use Rattle.basics.specs.declared.refusal.Refusal.{Refusal}
 use Rattle.basics.specs.declared.refusal.Refusal.TheVariants.{NoSuchPlace}
-use Rattle.drive.specs.Disk.{Sector, no_bytes}
+use Rattle.drive.specs.Disk.{Sector, condition_byte, no_bytes}
 use Rattle.drive.specs.declared.sector.Condition.{Condition}
 use Rattle.drive.specs.declared.sector.IdField.{IdField}
-use Rattle.machine.specs.Sums.{weighed, condition_byte, front, summed}
+use Rattle.machine.specs.Sums.{weighed, front, summed}
 
 -- 2^32
 abbrev pub turn : ℕ
@@ -36,14 +37,16 @@ unfolding weighed
 weighed_none i = refl
 
 -- one byte more
-pub weighed_more : (i k s f : ℕ) (bs : List ℕ) → k < length bs → (s + weighed i (drop k bs)) % turn ≡ f
-    → ((s + get_or bs k 0 * i % turn) % turn + weighed (i + 1) (drop (k + 1) bs)) % turn ≡ f
+pub weighed_more : (i k s f : ℕ) (bs : List ℕ) → k < length bs → (s + weighed (i + k) (drop k bs)) % turn ≡ f
+    → ((s + get_or bs k 0 * (i + k) % turn) % turn + weighed (i + (k + 1)) (drop (k + 1) bs)) % turn ≡ f
 weighed_more i k s f bs h e =
     let rest : drop k bs ≡ get_or bs k 0 ∷ drop (k + 1) bs =
     drop-cons bs k 0 h ∙ ap (λ (n : ℕ). get_or bs k 0 ∷ drop n bs) (sym (add-one k)) in
-    let here : weighed i (drop k bs) ≡ get_or bs k 0 * i + weighed (i + 1) (drop (k + 1) bs) =
-    ap (weighed i) rest ∙ weighed_cons i (get_or bs k 0) (drop (k + 1) bs) in
-    joins s (get_or bs k 0 * i) (weighed (i + 1) (drop (k + 1) bs)) ∙ ap (λ (n : ℕ). (s + n) % turn) (sym here) ∙ e
+    let next : i + k + 1 ≡ i + (k + 1) = omega arith in
+    let here : weighed (i + k) (drop k bs) ≡ get_or bs k 0 * (i + k) + weighed (i + (k + 1)) (drop (k + 1) bs) =
+    ap (weighed (i + k)) rest ∙ weighed_cons (i + k) (get_or bs k 0) (drop (k + 1) bs)
+    ∙ ap (λ (n : ℕ). get_or bs k 0 * (i + k) + weighed n (drop (k + 1) bs)) next in
+    joins s (get_or bs k 0 * (i + k)) (weighed (i + (k + 1)) (drop (k + 1) bs)) ∙ ap (λ (n : ℕ). (s + n) % turn) (sym here) ∙ e
 
 -- all bytes
 pub weighed_all : (i k s f : ℕ) (bs : List ℕ) → length bs ≤ k → s < turn → (s + weighed i (drop k bs)) % turn ≡ f → s ≡ f
@@ -105,14 +108,23 @@ module _ (xs bytes : List ℕ) (good : Bool) (w b : ℕ) (eight : length xs ≡ 
       ∙ parted xs no_bytes b eight (ap (λ (n : ℕ). n % turn) (e ∙ sym (weighed_zeros 9 256)))
       ∙ ap (λ (x : Bool). weighed 1 (xs ++ cond x bytes no_bytes) % turn) (sym g)
 
-abbrev row : IdField → ℕ → ℕ → List ℕ
-row f a b = a ∷ b ∷ f.id.flag ∷ f.id.cylinder / 256 ∷ f.id.cylinder % 256 ∷ f.id.head ∷ f.id.sector ∷ 0 ∷ []
+-- the bytes of a word
+pub high_byte : (n : ℕ) (bs : List ℕ) → n < 65536 → bs ≡ to_be_bytes w16 n → get_or bs 0 0 ≡ n / 256
+high_byte n bs small e = ap (λ (l : List ℕ). get_or l 0 0) e ∙ mod-eq_of_lt (omega arith)
 
-pub front_from : (s : Sector) (f : IdField) (c : Condition) (a b : ℕ) → f ≡ s.id → c ≡ s.datum.condition
-    → a ≡ condition_byte f.condition → b ≡ condition_byte c
-    → (a ∷ b ∷ f.id.flag ∷ f.id.cylinder / 256 ∷ f.id.cylinder % 256 ∷ f.id.head ∷ f.id.sector ∷ 0 ∷ []) ≡ front s
-front_from s f c a b ef ec ea eb =
-    ap₂ (row f) ea eb ∙ ap₂ (λ (x : IdField) (y : Condition). row x (condition_byte x.condition) (condition_byte y)) ef ec
+pub low_byte : (n : ℕ) (bs : List ℕ) → bs ≡ to_be_bytes w16 n → get_or bs 1 0 ≡ n % 256
+low_byte n bs e = ap (λ (l : List ℕ). get_or l 1 0) e
+
+abbrev row : IdField → ℕ → ℕ → ℕ → ℕ → List ℕ
+row f a b h l = a ∷ b ∷ f.id.flag ∷ h ∷ l ∷ f.id.head ∷ f.id.sector ∷ 0 ∷ []
+
+pub front_from : (s : Sector) (f : IdField) (c : Condition) (a b h l : ℕ) → f ≡ s.id → c ≡ s.datum.condition
+    → a ≡ condition_byte f.condition → b ≡ condition_byte c → h ≡ f.id.cylinder / 256 → l ≡ f.id.cylinder % 256
+    → (a ∷ b ∷ f.id.flag ∷ h ∷ l ∷ f.id.head ∷ f.id.sector ∷ 0 ∷ []) ≡ front s
+front_from s f c a b h l ef ec ea eb eh el =
+    ap₂ (λ (x y : ℕ). row f x y h l) ea eb
+    ∙ ap₂ (λ (x y : ℕ). row f (condition_byte f.condition) (condition_byte c) x y) eh el
+    ∙ ap₂ (λ (x : IdField) (y : Condition). row x (condition_byte x.condition) (condition_byte y) (x.id.cylinder / 256) (x.id.cylinder % 256)) ef ec
 
 -- a place's sum times its number
 pub term : (x w n : ℕ) → x ≡ w % turn → x * n % turn % turn ≡ w * n % turn

@@ -3,6 +3,7 @@
 --   any_disk     what a pack of any make means as a drive
 --   is_plain     whether a pack is a plain one
 --   pack_bytes   the bytes of a pack of any make
+--   layered_disk, layered_memory   what they mean under their layers
 --   LayeredRun, run_world   a run over a pack with its defect layer and a storage with its parity layer; what it is over
 use Rattle.std.specs.Prelude.{ℕ, Bool, true, false, List, vec_items}
 use Rattle.storage.specs.Makes.{plain_memory, keyed_memory}
@@ -11,11 +12,12 @@ use Rattle.drive.specs.Disk.{Disk}
 use Rattle.pack.specs.Plain.{plain_disk}
 use Rattle.chained_pack.specs.Format.{chained_disk}
 use Rattle.drive.specs.Defects.{defect_disk}
-use Rattle.drive.specs.declared.defect_layer.DefectLayer.{DefectLayer}
+use Rattle.drive.specs.Defects.{DefectLayer}
 use Rattle.storage.specs.Makes.{parity_memory}
-use Rattle.storage.specs.declared.parity.Parity.{Parity}
+use Rattle.storage.specs.Makes.{Parity}
 use Rattle.basics.specs.Table.{held}
-use Rattle.card.specs.Acts.{World, world}
+use Rattle.card.specs.Acts.{World}
+use Rattle.card.specs.Carrying.{world_around}
 use Rattle.runs.specs.declared.so_far.RunSoFar.{RunSoFar}
 use Rattle.machine.specs.declared.any_pack.AnyPack.{AnyPack}
 use Rattle.machine.specs.declared.any_pack.AnyPack.TheVariants.{Plain, Chained}
@@ -41,7 +43,11 @@ pack_bytes (Chained p) = vec_items p.bytes
 abbrev pub LayeredRun : Type 0
 LayeredRun = RunSoFar (DefectLayer AnyPack) (Parity AnyStorage)
 
+abbrev pub layered_disk : DefectLayer AnyPack → Disk
+layered_disk d = defect_disk (held d.marks) (any_disk d.below)
+
+abbrev pub layered_memory : Parity AnyStorage → Memory
+layered_memory s = parity_memory (held s.marks) (any_memory s.below)
+
 abbrev pub run_world : LayeredRun → World
-run_world r = world r.device
-    (defect_disk (held r.drive.marks) (any_disk r.drive.below))
-    (parity_memory (held r.storage.marks) (any_memory r.storage.below))
+run_world r = world_around layered_disk layered_memory r.around

@@ -6,13 +6,13 @@ use Rattle.drive.specs.Disk.{on_drive}
 use Rattle.drive.specs.declared.geometry.Track.{Track}
 use Rattle.machine.specs.Makes.{any_disk, is_plain}
 use Rattle.machine.specs.declared.machine.Machine.{Machine}
-use Rattle.machine.specs.declared.machine.NotFresh.{NotFresh}
-use Rattle.machine.specs.declared.machine.NotFresh.TheVariants.{NotPlain, Refused}
+use Rattle.machine.specs.declared.not_fresh.NotFresh.{NotFresh}
+use Rattle.machine.specs.declared.not_fresh.NotFresh.TheVariants.{NotPlain, Refused}
 
 abbrev pub FreshRefused : Machine → Track → NotFresh → Type 0
-FreshRefused before t (NotPlain m) = (is_plain before.run.drive.below ≡ false) × (m ≡ before)
+FreshRefused before t (NotPlain m) = (is_plain before.run.around.drive.below ≡ false) × (m ≡ before)
 FreshRefused before t (Refused back) =
-    (is_plain before.run.drive.below ≡ true)
-    × (on_drive (any_disk before.run.drive.below).heads t 0 ≡ false)
+    (is_plain before.run.around.drive.below ≡ true)
+    × (on_drive (any_disk before.run.around.drive.below).heads t 0 ≡ false)
     × (back.refusal ≡ NoSuchPlace)
     × (back.given ≡ before)

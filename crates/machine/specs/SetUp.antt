@@ -1,4 +1,5 @@
 -- What set-up calls leave.
+--   Tries         what a change that a verdict may refuse comes to: it is made, or the machine is handed back as it was
 --   Begun         a run that has just begun: a new card, with this device address
 --   world_of      what the run of a machine is over
 --   HoldsPlain, HoldsKeyed   a storage of that make, with these bytes and keys
@@ -7,10 +8,11 @@
 --   marking_place, lifting_place   the same of a field of a place
 --   WithStorage   a new run after a change of the storage: of the make below, and these marks over it
 --   WithPack      the same of the pack
-use Rattle.std.specs.Prelude.{◌≡◌, ℕ, List, Ok, Result, Vec, nat_eq}
+use Rattle.std.specs.Prelude.{◌≡◌, ℕ, List, Ok, Err, MatchResult, Result, Vec, nat_eq}
 use Rattle.std.specs.declared.alloc.Global.{Global}
 use Rattle.basics.specs.Marks.{entering}
 use Rattle.basics.specs.Table.{held}
+use Rattle.basics.specs.declared.handed_back.HandedBack.{HandedBack}
 use Rattle.basics.specs.declared.refusal.Refusal.{Refusal}
 use Rattle.card.specs.Acts.{World}
 use Rattle.card.specs.Calls.{new_card}
@@ -24,8 +26,11 @@ use Rattle.machine.specs.declared.any_storage.AnyStorage.{AnyStorage}
 use Rattle.machine.specs.declared.any_storage.AnyStorage.TheVariants.{Plain as PlainStorage, Keyed}
 use Rattle.machine.specs.declared.machine.Machine.{Machine}
 
+abbrev pub Tries : Machine → Result (Unit {0}) Refusal → (Machine → Type 0) → Result Machine (HandedBack Machine) → Type 0
+Tries before verdict P result = MatchResult result (λ m. (verdict ≡ Ok tt) × P m) (λ e. (verdict ≡ Err e.refusal) × (e.given ≡ before))
+
 abbrev pub Begun : ℕ → Machine → Type 0
-Begun device m = (m.run.card ≡ new_card) × (m.run.device ≡ device)
+Begun device m = (m.run.card ≡ new_card) × (m.run.around.device ≡ device)
 
 abbrev pub world_of : Machine → World
 world_of m = run_world m.run
@@ -47,27 +52,27 @@ OpenedChained bytes (Plain p) = ⊥
 OpenedChained bytes (Chained p) = p.bytes ≡ bytes
 
 abbrev pub marking_word : Machine → ℕ → Result (Unit {0}) Refusal
-marking_word m a = word_mark (any_memory m.run.storage.below) a (entering nat_eq 16 a (held m.run.storage.marks))
+marking_word m a = word_mark (any_memory m.run.around.storage.below) a (entering nat_eq 16 a (held m.run.around.storage.marks))
 
 abbrev pub lifting_word : Machine → ℕ → Result (Unit {0}) Refusal
-lifting_word m a = word_mark (any_memory m.run.storage.below) a (Ok tt)
+lifting_word m a = word_mark (any_memory m.run.around.storage.below) a (Ok tt)
 
 abbrev pub marking_place : Machine → Defect → Result (Unit {0}) Refusal
-marking_place m x = place_mark (any_disk m.run.drive.below) x (entering same_defect 32 x (held m.run.drive.marks))
+marking_place m x = place_mark (any_disk m.run.around.drive.below) x (entering same_defect 32 x (held m.run.around.drive.marks))
 
 abbrev pub lifting_place : Machine → Defect → Result (Unit {0}) Refusal
-lifting_place m x = place_mark (any_disk m.run.drive.below) x (Ok tt)
+lifting_place m x = place_mark (any_disk m.run.around.drive.below) x (Ok tt)
 
 abbrev pub WithStorage : Machine → Machine → (AnyStorage → Type 0) → List ℕ → Type 0
 WithStorage before m P marks =
-    Begun before.run.device m
-    × (m.run.drive ≡ before.run.drive)
-    × P m.run.storage.below
-    × (held m.run.storage.marks ≡ marks)
+    Begun before.run.around.device m
+    × (m.run.around.drive ≡ before.run.around.drive)
+    × P m.run.around.storage.below
+    × (held m.run.around.storage.marks ≡ marks)
 
 abbrev pub WithPack : Machine → Machine → (AnyPack → Type 0) → List Defect → Type 0
 WithPack before m P marks =
-    Begun before.run.device m
-    × (m.run.storage ≡ before.run.storage)
-    × P m.run.drive.below
-    × (held m.run.drive.marks ≡ marks)
+    Begun before.run.around.device m
+    × (m.run.around.storage ≡ before.run.around.storage)
+    × P m.run.around.drive.below
+    × (held m.run.around.drive.marks ≡ marks)

@@ -1,17 +1,14 @@
 -- The sums by which the data of a place and a whole drive are shown.
 --   weighed          each byte of a list times its index, which is counted from a number on, summed
 --   data_sum         the sum of the data of a place; none where the ID is spoiled
---   condition_byte   how a condition is counted: 0 good, 1 spoiled
 --   place_bytes      what a drive tells of a place, as 264 bytes: both conditions, the ID, a zero, the data or zeros
 --   summed           what a function gives at each number below a bound, summed
 --   front            the eight bytes in front of the data
 --   track_sum        the sums of a track's places, each times its number; some places come before the track
 --   places_sum       the same over the whole drive, modulo 2^32
 use Rattle.std.specs.Prelude.{ℕ, zero, suc, ◌+◌, ◌*◌, ◌/◌, ◌%◌, ◌^◌, cond, List, [], ◌∷◌, ◌++◌, Some, None, Option}
-use Rattle.drive.specs.Disk.{Disk, Sector, is_good, no_bytes}
+use Rattle.drive.specs.Disk.{Disk, Sector, is_good, condition_byte, no_bytes}
 use Rattle.drive.specs.declared.geometry.Track.{Track}
-use Rattle.drive.specs.declared.sector.Condition.{Condition}
-use Rattle.drive.specs.declared.sector.Condition.TheVariants.{Good, Spoiled}
 use Rattle.machine.specs.Tracks.{track_at}
 
 unfoldable pub weighed : ℕ → List ℕ → ℕ
@@ -20,10 +17,6 @@ weighed i (b ∷ bs) = b * i + weighed (i + 1) bs
 
 abbrev pub data_sum : Disk → Track → ℕ → Option ℕ
 data_sum d t p = cond (is_good (d.sector t p).id.condition) (Some (weighed 1 (d.sector t p).datum.bytes % 2 ^ 32)) None
-
-abbrev pub condition_byte : Condition → ℕ
-condition_byte Good = 0
-condition_byte Spoiled = 1
 
 -- both conditions, the ID's five bytes, a zero
 abbrev pub front : Sector → List ℕ

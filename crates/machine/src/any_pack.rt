@@ -1,10 +1,7 @@
 // A pack of any make.
 ghost use Rattle.std.specs.Prelude.{◌≡◌};
-ghost use Rattle.std.proofs.Common.{sym, ◌∙◌};
 ghost use Rattle.machine.specs.Freshness.{MadeFresh};
 ghost use Rattle.machine.specs.Makes.{any_disk, is_plain, pack_bytes};
-ghost use Rattle.pack.specs.PlainDisk.{plain_lawful};
-ghost use Rattle.chained_pack.specs.ChainedDisk.{chained_lawful};
 ghost use Rattle.machine.specs.declared.any_pack.AnyPack.TheVariants.{Plain, Chained};
 
 use basics::refusal::Refusal;
@@ -20,25 +17,35 @@ pub enum AnyPack {
     Chained(ChainedPack),
 }
 
+impl From<PlainPack> for AnyPack {
+    ghost from_gives = { λ p any. any ≡ Plain p };
+
+    fn from(pack: PlainPack) -> AnyPack {
+        AnyPack::Plain(pack)
+    }
+}
+
+impl From<ChainedPack> for AnyPack {
+    ghost from_gives = { λ p any. any ≡ Chained p };
+
+    fn from(pack: ChainedPack) -> AnyPack {
+        AnyPack::Chained(pack)
+    }
+}
+
 impl AnyPack {
     pub fn is_plain(&self) -> bool
         ensures { result ≡ is_plain self.now }
     {
-        match self {
-            AnyPack::Plain(_) => true,
-            AnyPack::Chained(_) => false,
-        }
+        matches!(self, AnyPack::Plain(_))
     }
 
     // Makes a track of a plain pack fresh, if it is on the drive; a chained pack stays as it is.
     pub fn make_fresh(&mut self, track: Track)
         ensures { MadeFresh self.old track self.new }
     {
-        match self {
-            AnyPack::Plain(pack) => {
-                let _ = pack.fresh_track(track);
-            }
-            AnyPack::Chained(_) => {}
+        if let AnyPack::Plain(pack) = self {
+            let _ = pack.fresh_track(track);
         }
     }
 
@@ -56,10 +63,7 @@ impl AnyPack {
 impl Drive for AnyPack {
     ghost meaning = { any_disk };
 
-    ghost lawful = { elim [
-      | Plain d ↦ plain_lawful d.heads d.bytes.items d.low d.high (sym d.bytes.ok.0 ∙ d.long)
-      | Chained d ↦ chained_lawful d.bytes.items d.lawful
-    ] };
+    ghost lawful = { elim [ Plain d ↦ d.drive | Chained d ↦ d.drive ] };
 
     fn heads(&self) -> u8 {
         match self {

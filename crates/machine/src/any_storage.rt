@@ -1,6 +1,7 @@
 // A storage of any make.
 ghost use Rattle.std.specs.Prelude.{◌≡◌};
 ghost use Rattle.machine.specs.Makes.{any_memory};
+ghost use Rattle.machine.specs.declared.any_storage.AnyStorage.TheVariants.{Plain as MadePlain, Keyed as MadeKeyed};
 ghost use Rattle.std.proofs.Common.{rules};
 
 use basics::fault::Fault;
@@ -12,6 +13,22 @@ use storage::storage::Storage;
 pub enum AnyStorage {
     Plain(Plain),
     Keyed(Keyed),
+}
+
+impl From<Plain> for AnyStorage {
+    ghost from_gives = { λ s any. any ≡ MadePlain s };
+
+    fn from(storage: Plain) -> AnyStorage {
+        AnyStorage::Plain(storage)
+    }
+}
+
+impl From<Keyed> for AnyStorage {
+    ghost from_gives = { λ s any. any ≡ MadeKeyed s };
+
+    fn from(storage: Keyed) -> AnyStorage {
+        AnyStorage::Keyed(storage)
+    }
 }
 
 impl Storage for AnyStorage {

@@ -5,5 +5,6 @@ pub mod any_pack;
 pub mod any_storage;
 pub mod fresh_pack;
 pub mod machine;
+pub mod not_fresh;
 pub mod sums;
 mod tracks;

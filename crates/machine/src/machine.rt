@@ -4,7 +4,6 @@ ghost use Rattle.machine.specs.Makes.{run_world};
 
 use crate::any_pack::AnyPack;
 use crate::any_storage::AnyStorage;
-use basics::handed_back::HandedBack;
 use drive::defect_layer::DefectLayer;
 use runs::so_far::RunSoFar;
 use storage::parity::Parity;
@@ -20,12 +19,4 @@ pub struct Machine {
     run: RunSoFar<DefectLayer<AnyPack>, Parity<AnyStorage>>,
     // card, pack and storage are what the rules make of the calls so far, from the run's start
     ghost made: { ∥ Made run.card (run_world run) ∥₁ },
-}
-
-// Why a track was not made fresh, with the machine as it was.
-#[derive(Drop)]
-pub enum NotFresh {
-    // a chained pack has no fresh tracks
-    NotPlain(Machine),
-    Refused(HandedBack<Machine>),
 }

@@ -1,11 +1,10 @@
 // The sums by which the data of a place and a whole drive are shown.
 ghost use Rattle.std.specs.Prelude.{◌≡◌, ◌+◌, ◌*◌, ◌%◌, ◌^◌, ◌<◌, length};
-ghost use Rattle.machine.specs.Sums.{condition_byte, weighed, data_sum, place_bytes, track_sum, places_sum};
+ghost use Rattle.machine.specs.Sums.{weighed, data_sum, place_bytes, track_sum, places_sum};
 
 use crate::tracks::track_at;
 use drive::drive::Drive;
 use drive::geometry::{CYLINDERS, PLACES, Track};
-use drive::sector::Condition;
 
 // where the data stands among the bytes of a place, counted from 1
 const DATA_FROM: u32 = 9;
@@ -16,10 +15,8 @@ fn weigh(bytes: &[u8], first: u32) -> u32
     ensures { result ≡ weighed first bytes.now % 2 ^ 32 }
 {
     let mut sum = 0u32;
-    let mut index = first;
-    for byte in bytes {
-        sum = sum.wrapping_add((*byte as u32).wrapping_mul(index));
-        index += 1;
+    for (index, byte) in bytes.iter().enumerate() {
+        sum = sum.wrapping_add((*byte as u32).wrapping_mul(first + index as u32));
     }
     sum
 }
@@ -28,20 +25,10 @@ fn weigh(bytes: &[u8], first: u32) -> u32
 pub fn data_sum<D: Drive>(drive: &D, track: Track, place: u8) -> Option<u32>
     ensures { result ≡ data_sum (D.Drive.meaning drive.now) track place }
 {
-    match drive.read(track, place) {
-        Ok(bytes) => Some(weigh(bytes, 1)),
-        Err(_) => None,
-    }
-}
-
-// how a condition is counted
-fn condition_byte(condition: Condition) -> u8
-    ensures { result ≡ condition_byte condition }
-{
-    match condition {
-        Condition::Good => 0,
-        Condition::Spoiled => 1,
-    }
+    let Ok(bytes) = drive.read(track, place) else {
+        return None;
+    };
+    Some(weigh(bytes, 1))
 }
 
 // the sum of all that a drive tells of a place
@@ -49,12 +36,13 @@ fn place_sum<D: Drive>(drive: &D, track: Track, place: u8) -> u32
     ensures { result ≡ weighed 1 (place_bytes (D.Drive.meaning drive.now) track place) % 2 ^ 32 }
 {
     let field = drive.id(track, place);
+    let [cylinder_high, cylinder_low] = field.id.cylinder.to_be_bytes();
     let front = [
-        condition_byte(field.condition),
-        condition_byte(drive.data_condition(track, place)),
+        u8::from(field.condition),
+        u8::from(drive.data_condition(track, place)),
         field.id.flag,
-        (field.id.cylinder / 256) as u8,
-        (field.id.cylinder % 256) as u8,
+        cylinder_high,
+        cylinder_low,
         field.id.head,
         field.id.sector,
         0,

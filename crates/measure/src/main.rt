@@ -6,27 +6,18 @@ mod report;
 mod tracks;
 mod words;
 
+use crate::report::Report;
 use pack::plain_pack::open::{THREE_HEADS_BYTES, TWO_HEADS_BYTES};
 use std::env;
 
-fn times_wanted(rt: &HostRuntime) -> anyhow::Result<bool> {
-    for argument in env::args(rt)? {
-        if argument.as_str() == "times" {
-            return Ok(true);
-        }
-    }
-    Ok(false)
-}
-
 fn run(rt: &HostRuntime) -> anyhow::Result<()> {
-    let times = times_wanted(rt)?;
+    let times = env::args(rt)?.any(|argument| argument.as_str() == "times");
+    let report = Report { rt, times };
     for blocks in [16, 32] {
-        words::plain(rt, times, blocks)?;
-        words::keyed(rt, times, blocks)?;
-        words::parity(rt, times, blocks)?;
+        words::each_make(&report, blocks)?;
     }
     for size in [TWO_HEADS_BYTES, THREE_HEADS_BYTES] {
-        tracks::whole_pack(rt, times, size)?;
+        tracks::whole_pack(&report, size)?;
     }
     Ok(())
 }

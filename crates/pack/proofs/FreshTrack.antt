@@ -7,16 +7,16 @@ use Rattle.std.proofs.lemmas.List.Edits.{paste-paste}
 use Rattle.std.proofs.lemmas.List.{length-append, length-take-le, take_more, take_all, flat_map_more, get_or_append_left, get_or-append_right, get_or-append-add, ext_get_or}
 use Rattle.std.proofs.lemmas.Bool.{cond-true, cond-false, cases_Bool, cases_lt, and_parts, and_cases, both_ways, eqb-true, ltb-true, lt-ltb}
 use Rattle.std.specs.List.{flat_map}
-use Rattle.drive.specs.Disk.{Sector, on_drive, same_track, blank}
+use Rattle.drive.specs.Disk.{condition_of, Sector, on_drive, same_track, blank}
 use Rattle.drive.specs.declared.geometry.Track.{Track}
 use Rattle.drive.specs.declared.sector.SectorId.{SectorId}
-use Rattle.pack.specs.Layout.{condition_of, id_of, every_below}
+use Rattle.pack.specs.Layout.{id_of, every_below}
 use Rattle.pack.specs.Plain.{place_number, sector_at, plain_disk}
 use Rattle.pack.specs.Fresh.{order, order_rule, zero_data, fresh_head, fresh_record, fresh_track, fresh_sector, refreshed}
 use Rattle.pack.proofs.Below.{every_at}
-use Rattle.pack.specs.Bytes.{id_from, get_d_part, length_part, get_or-paste_below, get_or-paste_in, get_or-paste_above, length_pasted}
-use Rattle.pack.specs.Numbers.{on_parts, place_within, one_track, same_track_on}
-use Rattle.pack.specs.PlainDisk.{sector_from, inside}
+use Rattle.pack.proofs.Bytes.{id_from, get_d_part, length_part, get_or-paste_below, get_or-paste_in, get_or-paste_above, length_pasted}
+use Rattle.pack.proofs.Numbers.{on_parts, place_within, one_track, same_track_on}
+use Rattle.pack.proofs.PlainDisk.{sector_from, inside}
 
 pub length_zeros : length zero_data ≡ 256
 unfolding zero_data

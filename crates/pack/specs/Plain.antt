@@ -2,17 +2,19 @@
 --   place_number   the number of a place on a drive, from 0
 --   sector_at      the sector of place n: ID condition, data condition, the ID's five bytes, a zero, 256 bytes of data
 --   plain_disk     what a plain pack means
+--   StandsFor      where the sector of a place on the drive stands among the bytes
 --   heads_of       the heads by the length: two or three, or none where the length is not lawful
 --   zero_clear, conditions_clear   what is tested of a place: its zero byte, its two conditions
 --   places_fault   what the places are refused by, if by anything
 --   in_places      the same behind the test of the length
 --   plain_fault    why bytes are no plain pack, if they are none: first the length, then any zero byte, then any condition
-use Rattle.std.specs.Prelude.{ℕ, ◌+◌, ◌*◌, Bool, cond, ◌&&◌, List, length, take, drop, Some, None, Option, ◌==◌, nat_le, slice_index}
+use Rattle.std.specs.Prelude.{◌≡◌, ℕ, ◌+◌, ◌*◌, Bool, true, cond, ◌&&◌, List, length, take, drop, Some, None, Option, ◌==◌, nat_le, slice_index}
 use Rattle.basics.specs.declared.refusal.Refusal.{Refusal}
 use Rattle.basics.specs.declared.refusal.Refusal.TheVariants.{Length, Header, Record}
-use Rattle.drive.specs.Disk.{Sector, Disk, on_drive, blank}
+use Rattle.drive.specs.Disk.{Sector, Disk, condition_of, on_drive, blank}
 use Rattle.drive.specs.declared.geometry.Track.{Track}
-use Rattle.pack.specs.Layout.{condition_of, id_of, every_below}
+use Rattle.pack.specs.Layout.{id_of, sector_in, IsWithin, every_below}
+use Rattle.pack.specs.declared.sector_at.SectorAt.{SectorAt}
 
 abbrev pub place_number : ℕ → Track → ℕ → ℕ
 place_number heads t p = (t.cylinder * heads + t.head) * 60 + p
@@ -28,6 +30,13 @@ plain_disk heads bytes = record {
   heads = heads;
   sector = λ t p. cond (on_drive heads t p) (sector_at bytes (place_number heads t p)) blank;
 }
+
+pub record StandsFor (heads : ℕ) (bytes : List ℕ) (t : Track) (p : ℕ) (at : SectorAt) : Type 0 where
+  pub on : on_drive heads t p ≡ true
+  pub front : at.front ≡ place_number heads t p * 264
+  pub body : at.body ≡ place_number heads t p * 264 + 8
+  pub within : IsWithin at (length bytes)
+  pub sector : sector_in bytes at ≡ (plain_disk heads bytes).sector t p
 
 abbrev pub heads_of : ℕ → Option ℕ
 heads_of n = cond (n == 9599040) (Some 2) (cond (n == 14398560) (Some 3) None)

@@ -1,10 +1,11 @@
 // How packs record an ID.
 ghost use Rattle.std.specs.Prelude.{◌≡◌, ◌<◌, length, drop, MatchOption};
-ghost use Rattle.pack.specs.Layout.{condition_of, id_of};
+ghost use Rattle.pack.specs.Layout.{id_of};
 
 use drive::sector::{Condition, IdField, SectorId};
 
 // what stands for an ID where none is recorded
+// kept: every place has an ID by what a drive owes, off the drive too: there is no Option in the trait
 pub const NO_ID: IdField = IdField {
     id: SectorId {
         flag: 0,
@@ -24,20 +25,9 @@ pub fn take_id(bytes: &[u8]) -> Option<(SectorId, &[u8])>
     };
     let id = SectorId {
         flag: *flag,
-        cylinder: *cylinder_high as u16 * 256 + *cylinder_low as u16,
+        cylinder: u16::from_be_bytes([*cylinder_high, *cylinder_low]),
         head: *head,
         sector: *sector,
     };
     Some((id, rest))
-}
-
-// what a condition byte says
-pub fn condition(byte: u8) -> Condition
-    ensures { result ≡ condition_of byte }
-{
-    if byte == 0 {
-        Condition::Good
-    } else {
-        Condition::Spoiled
-    }
 }

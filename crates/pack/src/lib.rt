@@ -3,3 +3,4 @@
 
 pub mod id_record;
 pub mod plain_pack;
+pub mod sector_at;

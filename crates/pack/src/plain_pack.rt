@@ -1,5 +1,7 @@
 // The plain pack: 264 bytes a place, in order of cylinder, head, place.
 ghost use Rattle.std.specs.Prelude.{◌≡◌, ◌*◌, ◌≤◌, vec_len};
+ghost use Rattle.drive.specs.Disk.{Lawful};
+ghost use Rattle.pack.specs.Plain.{plain_disk};
 
 pub mod access;
 pub mod fresh;
@@ -18,4 +20,5 @@ pub struct PlainPack {
     ghost low: { 2 ≤ heads },
     ghost high: { heads ≤ 3 },
     ghost long: { vec_len bytes ≡ heads * 4799520 },
+    pub ghost drive: { Lawful (plain_disk heads bytes.items) },
 }

@@ -42,7 +42,6 @@ Has [] e = ⊥
 Has (x ∷ xs) e = (x ≡ e) ⊎ Has xs e
 
 pub has_some : {X : Type 0} (f : X → Bool) (E : List X) (e : X) → Has E e → f e ≡ true → some_of f E ≡ true
-unfolding some_of
 has_some f [] e has t = absurd has
 has_some f (x ∷ xs) e has t =
     ⊎_elim (λ here. or_left (f x) (some_of f xs) (ap f here ∙ t)) (λ later. or_right (f x) (some_of f xs) (has_some f xs e later t)) has

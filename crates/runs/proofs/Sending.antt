@@ -4,7 +4,7 @@ use mathlib.Core.Path.{fun_ext}
 use Rattle.std.proofs.lemmas.Bool.{cond-true, cond-false, cases_Bool, not-true, not_from_false, or_parts, or_cases, both_ways, false≢true}
 use Rattle.std.specs.List.{range_with_len}
 use Rattle.drive.specs.Disk.{Sector, Disk, same_track, with_data, replaced}
-use Rattle.drive.specs.Search.{ids, some_of}
+use Rattle.drive.specs.Search.{ids}
 use Rattle.drive.specs.declared.geometry.Track.{Track}
 use Rattle.drive.specs.declared.sector.Condition.{Condition}
 use Rattle.drive.specs.declared.sector.Condition.TheVariants.{Good}
@@ -41,7 +41,6 @@ put_holds (to_sector t p ws) w (word_place b) = refl
 put_holds (to_sector t p ws) w (data_place u q) = pick_data (same_track u t && eqb q p) (padded (bytes_of ws)) (w.disk.sector u q)
 
 none_parts : (pl : Place) (s : Sent) (ss : List Sent) → none_to pl (s ∷ ss) ≡ true → (goes_to pl s ≡ false) × (none_to pl ss ≡ true)
-unfolding some_of
 none_parts pl s ss none =
     let parts = or_parts (goes_to pl s) (some_to pl ss) (not-true (some_to pl (s ∷ ss)) none) in
     (parts.0, not_from_false (some_to pl ss) parts.1)
@@ -125,7 +124,7 @@ same_run (send s a) w u agree =
 same_run (execute e a) w u agree = same_run a w u agree
 
 puts-alike : (ss : List Sent) (w u : World) (pl : Place) → some_to pl ss ≡ true → holds (puts ss u) pl ≡ holds (puts ss w) pl
-unfolding puts some_of
+unfolding puts
 puts-alike [] w u pl some = absurd (false≢true some)
 puts-alike (s ∷ ss) w u pl some =
     ⊎_elim

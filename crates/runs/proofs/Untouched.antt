@@ -37,7 +37,7 @@ after E [] = E
 after E (e ∷ es) = after (e ∷ E) es
 
 some_after : (f : Executed → Bool) (E es : List Executed) → some_of f (after E es) ≡ true → (some_of f E ≡ true) ⊎ (some_of f es ≡ true)
-unfolding after some_of
+unfolding after
 some_after f E [] t = inl t
 some_after f E (e ∷ es) t =
     ⊎_elim
@@ -46,7 +46,7 @@ some_after f E (e ∷ es) t =
     (some_after f (e ∷ E) es t)
 
 some_stays : (f : Executed → Bool) (E es : List Executed) → some_of f E ≡ true → some_of f (after E es) ≡ true
-unfolding after some_of
+unfolding after
 some_stays f E [] t = t
 some_stays f E (e ∷ es) t = some_stays f (e ∷ E) es (or_right (f e) (some_of f E) t)
 
@@ -58,7 +58,7 @@ module _ (w₀ : World) (calls : List Call) where
   -- nothing is sent to a place that is not covered at the end
   none_sent : {A : Type 0} (Q : A → World → List Executed → Type 0) (pl : Place) (a : Act A) (E : List Executed) (w : World)
       → Safe (Covered w₀ calls) Q E a w → (Covered w₀ calls (after E (executed a w)) pl → ⊥) → some_to pl (sent a w) ≡ false
-  unfolding Safe executed after some_of
+  unfolding Safe executed after
   none_sent Q pl (done x) E w safe free = refl
   none_sent Q pl (ask q k) E w safe free = none_sent Q pl (k (answer q w)) E w safe free
   none_sent Q pl (send s a) E w safe free =
@@ -100,7 +100,7 @@ fixed_puts (to_sector u q ws ∷ ss) w =
     }
 
 pub untouched : (calls : List Call) (w : World) → Untouched w (ends (run new_card calls) w).world calls (executed (run new_card calls) w)
-unfolding after Covered some_of
+unfolding after Covered
 untouched calls w =
     let rules = run new_card calls in
     let f = subst (Fixed w) (sym (ends-puts rules w)) (fixed_puts (sent rules w) w) in

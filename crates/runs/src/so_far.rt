@@ -1,53 +1,50 @@
 // A run under way: card, drive and storage are what the rules made of the calls so far, and can be looked at in between.
-ghost use Rattle.std.specs.Prelude.{◌≡◌, true};
-ghost use Rattle.card.specs.Acts.{spares_storage, spares_drive, world, ends, sent, ended};
+ghost use Rattle.std.specs.Prelude.{◌≡◌};
 ghost use Rattle.card.specs.Calls.{turn, new_card};
+ghost use Rattle.card.specs.Carrying.{world_around, Carries};
 ghost use Rattle.card.specs.Rules.{call};
 ghost use Rattle.runs.specs.SoFar.{GoesOn, LawSoFar};
 
 use answers::answer::Answer;
 use card::call::Call;
 use card::registers::Card;
+use card::surroundings::Surroundings;
 use drive::drive::Drive;
 use storage::storage::Storage;
 
 #[derive(Drop)]
 pub struct RunSoFar<D, S> {
-    device: u8,
     card: Card,
-    drive: D,
-    storage: S,
+    around: Surroundings<D, S>,
 }
 
 impl<D: Drive, S: Storage> RunSoFar<D, S> {
     // A new card over a drive and a storage.
     pub fn start(device: u8, drive: D, storage: S) -> Self
-        ensures { result ≡ record { device = device; card = new_card; drive = drive; storage = storage } }
+        ensures { result ≡ record { card = new_card; around = record { device = device; drive = drive; storage = storage } } }
     {
         RunSoFar {
-            device,
             card: Card::new(),
-            drive,
-            storage,
+            around: Surroundings {
+                device,
+                drive,
+                storage,
+            },
         }
     }
 
     // Carries out one call more.
     pub fn carry_out(&mut self, asked: Call) -> Answer
-        ensures turn { ends (call self.old.card asked) (world self.old.device (D.Drive.meaning self.old.drive) (S.Storage.meaning self.old.storage)) ≡ ended (turn self.new.card result) (world self.new.device (D.Drive.meaning self.new.drive) (S.Storage.meaning self.new.storage)) }
-        ensures device { self.new.device ≡ self.old.device }
-        ensures goes { GoesOn self.old.card (world self.old.device (D.Drive.meaning self.old.drive) (S.Storage.meaning self.old.storage)) asked result self.new.card (world self.new.device (D.Drive.meaning self.new.drive) (S.Storage.meaning self.new.storage)) }
-        ensures drive { spares_drive (sent (call self.old.card asked) (world self.old.device (D.Drive.meaning self.old.drive) (S.Storage.meaning self.old.storage))) ≡ true → self.new.drive ≡ self.old.drive }
-        ensures storage { spares_storage (sent (call self.old.card asked) (world self.old.device (D.Drive.meaning self.old.drive) (S.Storage.meaning self.old.storage))) ≡ true → self.new.storage ≡ self.old.storage }
+        ensures carries { Carries D.meaning S.meaning (call self.old.card asked) self.old.around (turn self.new.card result) self.new.around }
+        ensures goes { GoesOn self.old.card (world_around D.meaning S.meaning self.old.around) asked result self.new.card (world_around D.meaning S.meaning self.new.around) }
     {
-        self.card
-            .carry_out(self.device, &mut self.drive, &mut self.storage, asked)
+        self.card.carry_out(&mut self.around, asked)
     }
 
     // That the law holds of the calls so far; the answer is the card.
     pub fn law(&self) -> &Card
         ensures card { result.now ≡ self.now.card }
-        ensures law { LawSoFar self.now.card (world self.now.device (D.Drive.meaning self.now.drive) (S.Storage.meaning self.now.storage)) }
+        ensures law { LawSoFar self.now.card (world_around D.meaning S.meaning self.now.around) }
     {
         &self.card
     }
@@ -59,33 +56,33 @@ impl<D: Drive, S: Storage> RunSoFar<D, S> {
     }
 
     pub fn device(&self) -> u8
-        ensures { result ≡ self.now.device }
+        ensures { result ≡ self.now.around.device }
     {
-        self.device
+        self.around.device
     }
 
     pub fn drive(&self) -> &D
-        ensures { result.now ≡ self.now.drive }
+        ensures { result.now ≡ self.now.around.drive }
     {
-        &self.drive
+        &self.around.drive
     }
 
     pub fn storage(&self) -> &S
-        ensures { result.now ≡ self.now.storage }
+        ensures { result.now ≡ self.now.around.storage }
     {
-        &self.storage
+        &self.around.storage
     }
 
     // Ends the run and gives drive and storage back.
     pub fn stop(self) -> (D, S)
-        ensures { result ≡ (self.drive, self.storage) }
+        ensures { result ≡ (self.around.drive, self.around.storage) }
     {
-        let RunSoFar {
+        let RunSoFar { card: _, around } = self;
+        let Surroundings {
             device: _,
-            card: _,
             drive,
             storage,
-        } = self;
+        } = around;
         (drive, storage)
     }
 }

@@ -11,16 +11,16 @@ use Rattle.script.specs.Figures.{word, byte, address, hex, hex_address}
 use Rattle.script.specs.Laws.{Whole, ReadBack, call_script, ScriptReadBack}
 use Rattle.script.specs.Printings.{sayable, call_verb, call_words, call_line}
 use Rattle.script.specs.Readings.{command_of, store_of, call_of, line_of}
-use Rattle.script.specs.Verbs.{call_text, verbs, verb_among, verb_of}
-use Rattle.script.specs.Words.{words, lines, pieces, filled, unreturned}
-use Rattle.script.proofs.Clean.{AllFree, AllSome, absent, free_from, free_digits, words_spaced, free_spaced, unreturned_free}
+use Rattle.script.specs.Verbs.{call_text, verbs, verb_of}
+use Rattle.script.specs.Words.{words, lines, unreturned}
+use Rattle.script.proofs.Clean.{Clean, AllClean, letters, free_letters, free_digits, words_spaced, free_spaced, unreturned_free}
 use Rattle.script.proofs.Cutting.{Free, lines_cut}
 use Rattle.script.proofs.Digits.{address_short}
 use Rattle.script.proofs.Hexes.{hex_digits, hex_says, hex_some}
 
 -- a line that begins with the verb of a call
 line_of_lem : (v : CallVerb) (ws : List (List ℕ)) → line_of (call_text v ∷ ws) ≡ option_map Calls (call_of v ws)
-unfolding line_of verb_of verbs verb_among
+unfolding line_of verb_of verbs
 line_of_lem CommandVerb ws = refl
 line_of_lem StepVerb ws = refl
 line_of_lem ServiceVerb ws = refl
@@ -51,80 +51,53 @@ call_says Service q h = refl
 call_says Step q h = refl
 
 -- a byte that stands in no word of a call
-pub record Outside (b : ℕ) : Type 0 where
-  digit : 16 ≤ digit_value b
-  verb : (v : CallVerb) → absent b (call_text v) ≡ true
-  bad : absent b (codes "bad") ≡ true
+abbrev Outside : ℕ → Type 0
+Outside b = (b < 97) × (16 ≤ digit_value b)
 
-space_outside : Outside 32
-space_outside = record { digit = lit≤ tt; verb = λ v. elim v as (λ u. absent 32 (call_text u) ≡ true) [ CommandVerb ↦ refl | StepVerb ↦ refl | ServiceVerb ↦ refl | ReadyVerb ↦ refl | UnreadyVerb ↦ refl | HaltVerb ↦ refl | StoreVerb ↦ refl ]; bad = refl }
+verb_letters : (v : CallVerb) → (letters (call_text v) ≡ true) × (0 < length (call_text v))
+verb_letters CommandVerb = (refl, lit< tt)
+verb_letters StepVerb = (refl, lit< tt)
+verb_letters ServiceVerb = (refl, lit< tt)
+verb_letters ReadyVerb = (refl, lit< tt)
+verb_letters UnreadyVerb = (refl, lit< tt)
+verb_letters HaltVerb = (refl, lit< tt)
+verb_letters StoreVerb = (refl, lit< tt)
 
-feed_outside : Outside 10
-feed_outside = record { digit = lit≤ tt; verb = λ v. elim v as (λ u. absent 10 (call_text u) ≡ true) [ CommandVerb ↦ refl | StepVerb ↦ refl | ServiceVerb ↦ refl | ReadyVerb ↦ refl | UnreadyVerb ↦ refl | HaltVerb ↦ refl | StoreVerb ↦ refl ]; bad = refl }
+hex_clean : (b : ℕ) → Outside b → (k n : ℕ) → 0 < k → Clean b (hex k n)
+hex_clean b o k n some = (free_digits b (hex k n) o.1 (hex_digits k n), hex_some k n some)
 
-return_outside : Outside 13
-return_outside = record { digit = lit≤ tt; verb = λ v. elim v as (λ u. absent 13 (call_text u) ≡ true) [ CommandVerb ↦ refl | StepVerb ↦ refl | ServiceVerb ↦ refl | ReadyVerb ↦ refl | UnreadyVerb ↦ refl | HaltVerb ↦ refl | StoreVerb ↦ refl ]; bad = refl }
-
-hex_free : (b : ℕ) → Outside b → (k n : ℕ) → Free b (hex k n)
-hex_free b o k n = free_digits b (hex k n) o.digit (hex_digits k n)
-
-address_free : (b : ℕ) → Outside b → (n : ℕ) → Free b (hex_address n)
+address_clean : (b : ℕ) → Outside b → (n : ℕ) → Clean b (hex_address n)
 unfolding hex_address
-address_free b o n = elim (ltb n 0x100000) as (λ t. Free b (cond t (hex 5 n) (hex 8 n))) [ true ↦ hex_free b o 5 n | false ↦ hex_free b o 8 n ]
+address_clean b o n = elim (ltb n 0x100000) as (λ t. Clean b (cond t (hex 5 n) (hex 8 n))) [ true ↦ hex_clean b o 5 n (lit< tt) | false ↦ hex_clean b o 8 n (lit< tt) ]
 
-address_some : (n : ℕ) → 0 < length (hex_address n)
-unfolding hex_address
-address_some n = elim (ltb n 0x100000) as (λ t. 0 < length (cond t (hex 5 n) (hex 8 n))) [ true ↦ hex_some 5 n (lit< tt) | false ↦ hex_some 8 n (lit< tt) ]
+words_clean : (b : ℕ) → Outside b → (c : Call) → AllClean b (call_words c)
+words_clean b o (Command x y true) = (hex_clean b o 4 x (lit< tt), (hex_clean b o 4 y (lit< tt), tt))
+words_clean b o (Command x y false) = (hex_clean b o 4 x (lit< tt), (hex_clean b o 4 y (lit< tt), ((free_letters b (codes "bad") o.0 refl, lit< tt), tt)))
+words_clean b o Halt = tt
+words_clean b o (Store a k w) = (address_clean b o a, (hex_clean b o 2 k (lit< tt), (hex_clean b o 4 w (lit< tt), tt)))
+words_clean b o (Readiness r) = tt
+words_clean b o Service = tt
+words_clean b o Step = tt
 
-words_without : (b : ℕ) → Outside b → (c : Call) → AllFree b (call_words c)
-words_without b o (Command x y true) = (hex_free b o 4 x, (hex_free b o 4 y, tt))
-words_without b o (Command x y false) = (hex_free b o 4 x, (hex_free b o 4 y, (free_from b (codes "bad") o.bad, tt)))
-words_without b o Halt = tt
-words_without b o (Store a k w) = (address_free b o a, (hex_free b o 2 k, (hex_free b o 4 w, tt)))
-words_without b o (Readiness r) = tt
-words_without b o Service = tt
-words_without b o Step = tt
-
-words_some : (c : Call) → AllSome (call_words c)
-words_some (Command x y true) = (hex_some 4 x (lit< tt), (hex_some 4 y (lit< tt), tt))
-words_some (Command x y false) = (hex_some 4 x (lit< tt), (hex_some 4 y (lit< tt), (lit< tt, tt)))
-words_some Halt = tt
-words_some (Store a k w) = (address_some a, (hex_some 2 k (lit< tt), (hex_some 4 w (lit< tt), tt)))
-words_some (Readiness r) = tt
-words_some Service = tt
-words_some Step = tt
-
-verb_some : (v : CallVerb) → 0 < length (call_text v)
-verb_some CommandVerb = lit< tt
-verb_some StepVerb = lit< tt
-verb_some ServiceVerb = lit< tt
-verb_some ReadyVerb = lit< tt
-verb_some UnreadyVerb = lit< tt
-verb_some HaltVerb = lit< tt
-verb_some StoreVerb = lit< tt
-
-line_without : (b : ℕ) → Outside b → (c : Call) → AllFree b (call_text (call_verb c) ∷ call_words c)
-line_without b o c = (free_from b (call_text (call_verb c)) (o.verb (call_verb c)), words_without b o c)
+line_clean : (b : ℕ) → Outside b → (c : Call) → AllClean b (call_text (call_verb c) ∷ call_words c)
+line_clean b o c = let v = verb_letters (call_verb c) in ((free_letters b (call_text (call_verb c)) o.0 v.0, v.1), words_clean b o c)
 
 line_words : (c : Call) → words (call_line c) ≡ call_text (call_verb c) ∷ call_words c
-line_words c = words_spaced (call_text (call_verb c)) (call_words c) (line_without 32 space_outside c) (verb_some (call_verb c), words_some c)
+line_words c = words_spaced (call_text (call_verb c)) (call_words c) (line_clean 32 (lit< tt, lit≤ tt) c)
 
 pub read_back : ReadBack
 read_back c q h = ap line_of (line_words c) ∙ line_of_lem (call_verb c) (call_words c) ∙ ap (option_map Calls) (call_says c q h)
 
-feed_free : (c : Call) → Free 10 (call_line c)
-feed_free c = free_spaced 10 (call_text (call_verb c)) (call_words c) (λ e. omega arith) (line_without 10 feed_outside c)
-
-return_free : (c : Call) → Free 13 (call_line c)
-return_free c = free_spaced 13 (call_text (call_verb c)) (call_words c) (λ e. omega arith) (line_without 13 return_outside c)
+line_free : (b : ℕ) → Outside b → (32 ≡ b → ⊥) → (c : Call) → Free b (call_line c)
+line_free b o h c = free_spaced b (call_text (call_verb c)) (call_words c) h (line_clean b o c)
 
 none_blank : map (λ l. line_of (words l)) (lines []) ≡ Some Blank ∷ []
-unfolding lines pieces unreturned words filled line_of
+unfolding lines unreturned words line_of
 none_blank = refl
 
 pub script_read_back : ScriptReadBack
 unfolding call_script
 script_read_back [] h = none_blank
 script_read_back (c ∷ cs) h =
-    ap (map (λ l. line_of (words l))) (lines_cut (call_line c) (call_script cs) (feed_free c) ∙ ap (λ l. l ∷ lines (call_script cs)) (unreturned_free (call_line c) (return_free c)))
+    ap (map (λ l. line_of (words l))) (lines_cut (call_line c) (call_script cs) (line_free 10 (lit< tt, lit≤ tt) (λ e. omega arith) c) ∙ ap (λ l. l ∷ lines (call_script cs)) (unreturned_free (call_line c) (line_free 13 (lit< tt, lit≤ tt) (λ e. omega arith) c)))
     ∙ (λ i. read_back c h.0.0 h.0.1 i ∷ script_read_back cs h.1 i)

@@ -4,5 +4,5 @@ mod Cutting
 mod Digits
 mod Hexes
 mod Keying
-mod Naming
-mod Reading
+pub mod Naming
+pub mod Reading

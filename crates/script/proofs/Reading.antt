@@ -1,10 +1,14 @@
 -- What digits say.
-use Rattle.std.proofs.Common.{◌≡◌, ℕ, ◌^◌, ◌<◌, ◌≤◌, true, ◌&&◌, ltb, leb, List, [], ◌∷◌, length, get_or, Some, None, sym, refl, ap, ◌∙◌, subst, inl, inr, arith, ltb-true, lt-ltb, le-leb, leb-true}
-use Rattle.std.proofs.lemmas.Bool.{and_parts, and_from, cases_Bool, cond-true, cond-false}
+use Rattle.std.proofs.Common.{◌≡◌, ℕ, ◌^◌, ◌<◌, ◌≤◌, true, ◌&&◌, ltb, leb, List, [], ◌∷◌, length, get_or, Some, None, Ok, Err, Result, Bool, false, cond, sym, refl, ap, ◌∙◌, subst, inl, inr, arith, ltb-true, lt-ltb, le-leb, leb-true, ◌+◌, Option}
+use Rattle.std.proofs.lemmas.Bool.{and_parts, and_from, cases_Bool, cond-true, cond-false, lt-leb}
 use Rattle.std.proofs.lemmas.Str.Parse.{without_leading_plus_none}
-use Rattle.std.specs.Str.Parse.{digits_value, AllDigits, IsNumeral, without_leading_plus}
+use Rattle.std.specs.Str.Parse.{digits_value, AllDigits, IsNumeral}
 use Rattle.std.specs.Char.{digit_value}
+use Rattle.std.specs.Str.Parse.{ParsesUnsigned}
+use Rattle.std.specs.Bool.{then_some}
+use Rattle.std.specs.Result.{result_ok, MatchResult, IsErrAnd, OkIff}
 use Rattle.script.specs.Figures.{figures, number}
+use Rattle.script.specs.Takes.{after}
 
 figures_from : (radix : ℕ) (w : List ℕ) → AllDigits radix w → figures radix w ≡ true
 unfolding figures
@@ -40,17 +44,55 @@ Good radix w = IsNumeral radix w × (digits_value radix w < 2 ^ 32)
 abbrev Unsigned : List ℕ → Type 0
 Unsigned w = get_or w 0 0 ≡ 43 → ⊥
 
-pub number_ok : (radix most n : ℕ) (w : List ℕ) → Unsigned w → Good radix (without_leading_plus w) × (n ≡ digits_value radix (without_leading_plus w)) → n ≤ most → number radix most w ≡ Some n
-number_ok radix most n w plain h small =
+pub reads_plain : {E : Type 0} (radix : ℕ) (w : List ℕ) (r : Result ℕ E) → Unsigned w → ParsesUnsigned 32 radix w r → result_ok r ≡ number radix 0xFFFFFFFF w
+reads_plain radix w (Ok n) plain h =
     let p : Good radix w × (n ≡ digits_value radix w) = subst (λ (v : List ℕ). Good radix v × (n ≡ digits_value radix v)) (without_leading_plus_none w plain) h in
-    number_is radix most w p.0.0 (subst (λ (x : ℕ). x ≤ most) p.1 small) ∙ ap (λ (x : ℕ). Some x) (sym p.1)
-
-pub number_large : (radix most n : ℕ) (w : List ℕ) → Unsigned w → Good radix (without_leading_plus w) × (n ≡ digits_value radix (without_leading_plus w)) → most < n → number radix most w ≡ None
-number_large radix most n w plain h large =
-    let p : Good radix w × (n ≡ digits_value radix w) = subst (λ (v : List ℕ). Good radix v × (n ≡ digits_value radix v)) (without_leading_plus_none w plain) h in
-    number_not radix most w (λ q l. omega (arith, p.1))
-
-pub number_err : (radix most : ℕ) (w : List ℕ) → Unsigned w → (Good radix (without_leading_plus w) → ⊥) → most < 2 ^ 32 → number radix most w ≡ None
-number_err radix most w plain h small =
+    ap (λ (x : ℕ). Some x) p.1 ∙ sym (number_is radix 0xFFFFFFFF w p.0.0 (omega arith))
+reads_plain radix w (Err e) plain h =
     let p : Good radix w → ⊥ = subst (λ (v : List ℕ). Good radix v → ⊥) (without_leading_plus_none w plain) h in
-    number_not radix most w (λ q l. p (q, omega arith))
+    sym (number_not radix 0xFFFFFFFF w (λ q l. p (q, omega arith)))
+
+-- an error in place of another
+pub kept : {X E F : Type 0} (r : Result X E) (s : Result X F) (P : E → F → Type 0) → MatchResult r (λ x. s ≡ Ok x) (λ e. IsErrAnd s (P e)) → result_ok s ≡ result_ok r
+kept (Ok x) s P h = ap result_ok h
+kept (Err e) (Ok x) P h = absurd h
+kept (Err e) (Err f) P h = refl
+
+-- a number in a narrower range
+narrow : (most n : ℕ) (a b c d : Bool) → leb n most ≡ c → (c ≡ true → d ≡ true) → cond (a && (b && c)) (Some n) None ≡ after (cond (a && (b && d)) (Some n) None) (λ v. cond (leb v most) (Some v) None)
+narrow most n false b c d e h = refl
+narrow most n true false c d e h = refl
+narrow most n true true true true e h = sym (ap (λ (t : Bool). cond t (Some n) None) e)
+narrow most n true true false true e h = sym (ap (λ (t : Bool). cond t (Some n) None) e)
+narrow most n true true false false e h = refl
+narrow most n true true true false e h = let z = h refl in cc
+
+pub number_narrow : (radix most : ℕ) (w : List ℕ) → most ≤ 0xFFFFFFFF → number radix most w ≡ after (number radix 0xFFFFFFFF w) (λ v. cond (leb v most) (Some v) None)
+unfolding number
+number_narrow radix most w small = narrow most (digits_value radix w) _ _ _ _ refl (λ e. le-leb _ _ (omega (arith, leb-true _ _ e)))
+
+read_on : (radix most n : ℕ) (w : List ℕ) → Some n ≡ number radix 0xFFFFFFFF w → most ≤ 0xFFFFFFFF → cond (leb n most) (Some n) None ≡ number radix most w
+read_on radix most n w e small = sym (number_narrow radix most w small ∙ ap (λ (o : Option ℕ). after o (λ v. cond (leb v most) (Some v) None)) (sym e))
+
+-- a number, where it passed the test of its range
+pub ranged : (radix most n : ℕ) (w : List ℕ) (b : Bool) → Some n ≡ number radix 0xFFFFFFFF w → most ≤ 0xFFFFFFFF → b ≡ leb n most → then_some b n ≡ number radix most w
+ranged radix most n w true e small t = ap (λ (b : Bool). cond b (Some n) None) t ∙ read_on radix most n w e small
+ranged radix most n w false e small t = ap (λ (b : Bool). cond b (Some n) None) t ∙ read_on radix most n w e small
+
+in_range : (radix most n : ℕ) (w : List ℕ) → Some n ≡ number radix 0xFFFFFFFF w → n ≤ most → most ≤ 0xFFFFFFFF → Some n ≡ number radix most w
+in_range radix most n w e fits small = sym (cond-true _ _ _ (le-leb _ _ fits)) ∙ read_on radix most n w e small
+
+out_of_range : (radix most n : ℕ) (w : List ℕ) → Some n ≡ number radix 0xFFFFFFFF w → most < n → most ≤ 0xFFFFFFFF → None ≡ number radix most w
+out_of_range radix most n w e large small = sym (cond-false _ _ _ (lt-leb _ _ large)) ∙ read_on radix most n w e small
+
+pub no_number : (radix most : ℕ) (w : List ℕ) → None ≡ number radix 0xFFFFFFFF w → most ≤ 0xFFFFFFFF → None ≡ number radix most w
+no_number radix most w e small = sym (number_narrow radix most w small ∙ ap (λ (o : Option ℕ). after o (λ v. cond (leb v most) (Some v) None)) (sym e))
+
+-- a number made narrower
+pub narrowed : {E F : Type 0} (radix most n : ℕ) (w : List ℕ) (r : Result ℕ E) (s : Result ℕ F) (P : E → F → Type 0) → Some n ≡ number radix 0xFFFFFFFF w → OkIff r (n < most + 1) n
+    → MatchResult r (λ x. s ≡ Ok x) (λ e. IsErrAnd s (P e)) → most ≤ 0xFFFFFFFF → result_ok s ≡ number radix most w
+narrowed radix most n w (Ok x) s P e h m small = kept (Ok x) s P m ∙ ap (λ (x : ℕ). Some x) h.1 ∙ in_range radix most n w e (omega (arith, h.0)) small
+narrowed radix most n w (Err x) s P e h m small = kept (Err x) s P m ∙ out_of_range radix most n w e (ne-lt most n h) small
+  where
+    ne-lt : (a b : ℕ) → (b < a + 1 → ⊥) → a < b
+    ne-lt a b f = omega arith

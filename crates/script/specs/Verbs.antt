@@ -1,9 +1,9 @@
 -- The first words of lines.
 --   call_text, set_up_text, verb_text   the word of a verb
 --   verbs        all verbs
---   verb_among   the first verb of a list that a word is
 --   verb_of      the verb that a word is, if any
-use Rattle.std.specs.Prelude.{ℕ, cond, List, [], ◌∷◌, Some, None, codes, Option}
+use Rattle.std.specs.Prelude.{ℕ, List, [], ◌∷◌, codes, Option}
+use Rattle.std.specs.List.{find}
 use Rattle.std.specs.Str.{bytes_eq}
 use Rattle.script.specs.declared.verb.CallVerb.{CallVerb}
 use Rattle.script.specs.declared.verb.CallVerb.TheVariants.{Command, Step, Service, Ready, Unready, Halt, Store}
@@ -42,9 +42,5 @@ verbs = Calls Command ∷ Calls Step ∷ Calls Service ∷ Calls Ready ∷ Calls
     ∷ SetsUp Storage ∷ SetsUp Pack ∷ SetsUp Device ∷ SetsUp Parity ∷ SetsUp Unparity ∷ SetsUp Defect ∷ SetsUp Undefect ∷ SetsUp Fresh
     ∷ Saves ∷ Shows ∷ []
 
-unfoldable pub verb_among : List Verb → List ℕ → Option Verb
-verb_among [] w = None
-verb_among (v ∷ vs) w = cond (bytes_eq w (verb_text v)) (Some v) (verb_among vs w)
-
 unfoldable pub verb_of : List ℕ → Option Verb
-verb_of w = verb_among verbs w
+verb_of w = find (λ v. bytes_eq w (verb_text v)) verbs

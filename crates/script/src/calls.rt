@@ -4,8 +4,9 @@ ghost use Rattle.std.specs.Result.{result_ok};
 ghost use Rattle.script.specs.Readings.{parity, command_of, store_of, call_of};
 ghost use Rattle.script.specs.Words.{words};
 
+use crate::hex::{Address, Byte, Word};
 use crate::reason::Reason;
-use crate::take::{ended, take_address, take_byte, take_word};
+use crate::take::{ended, take};
 use crate::verb::CallVerb;
 use crate::words::next_word;
 use card::call::Call;
@@ -16,35 +17,29 @@ fn read_parity(text: &str) -> Result<bool, Reason>
 {
     match next_word(text) {
         None => Ok(true),
-        Some((word, rest)) => {
-            if word == "bad" {
-                ended(false, rest)
-            } else {
-                Err(Reason::WordTooMany)
-            }
-        }
+        Some(("bad", rest)) => ended(false, rest),
+        Some(_) => Err(Reason::WordTooMany),
     }
 }
 
 fn read_command(text: &str) -> Result<Call, Reason>
     ensures { result_ok result ≡ command_of (words text.now) }
 {
-    let (first, rest) = take_word(text)?;
-    let (second, rest) = take_word(rest)?;
-    let parity = read_parity(rest)?;
+    let (first, rest) = take::<Word>(text)?;
+    let (second, rest) = take::<Word>(rest)?;
     Ok(Call::Command {
         first,
         second,
-        parity,
+        parity: read_parity(rest)?,
     })
 }
 
 fn read_store(text: &str) -> Result<Call, Reason>
     ensures { result_ok result ≡ store_of (words text.now) }
 {
-    let (address, rest) = take_address(text)?;
-    let (key, rest) = take_byte(rest)?;
-    let (word, rest) = take_word(rest)?;
+    let (address, rest) = take::<Address>(text)?;
+    let (key, rest) = take::<Byte>(rest)?;
+    let (word, rest) = take::<Word>(rest)?;
     ended(Call::Store { address, key, word }, rest)
 }
 

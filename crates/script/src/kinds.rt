@@ -1,11 +1,10 @@
 // The fixed words that stand second in a line.
-ghost use Rattle.std.specs.Prelude.{◌≡◌};
+#![tactic(auto, using(crate::proofs::Naming::same_false), unfolding(crate::specs::Kinds::picked, crate::specs::Kinds::storage_kind, crate::specs::Kinds::pack_kind, crate::specs::Kinds::look_kind, crate::specs::Kinds::field_kind))]
+
 ghost use Rattle.script.specs.Kinds.{storage_kind, pack_kind, look_kind, field_kind};
-ghost use Rattle.script.specs.Takes.{taken, left};
-ghost use Rattle.script.specs.Words.{words};
 
 use crate::reason::Reason;
-use crate::words::next_word;
+use crate::take::FromWord;
 use drive::defect::Field;
 
 #[derive(Clone, Copy)]
@@ -31,109 +30,63 @@ pub(crate) enum LookKind {
     Places,
 }
 
-fn storage_kind(word: &str) -> Option<StorageKind>
-    ensures { result ≡ storage_kind word.now }
-{
-    if word == "plain" {
-        Some(StorageKind::Plain)
-    } else if word == "keyed" {
-        Some(StorageKind::Keyed)
-    } else if word == "file" {
-        Some(StorageKind::File)
-    } else {
-        None
+impl FromWord for StorageKind {
+    type Value = StorageKind;
+
+    ghost said = { storage_kind };
+
+    fn from_word(word: &str) -> Result<StorageKind, Reason> {
+        match word {
+            "plain" => Ok(StorageKind::Plain),
+            "keyed" => Ok(StorageKind::Keyed),
+            "file" => Ok(StorageKind::File),
+            _ => Err(Reason::UnknownWord),
+        }
     }
 }
 
-fn pack_kind(word: &str) -> Option<PackKind>
-    ensures { result ≡ pack_kind word.now }
-{
-    if word == "plain" {
-        Some(PackKind::Plain)
-    } else if word == "chained" {
-        Some(PackKind::Chained)
-    } else if word == "fresh" {
-        Some(PackKind::Fresh)
-    } else {
-        None
+impl FromWord for PackKind {
+    type Value = PackKind;
+
+    ghost said = { pack_kind };
+
+    fn from_word(word: &str) -> Result<PackKind, Reason> {
+        match word {
+            "plain" => Ok(PackKind::Plain),
+            "chained" => Ok(PackKind::Chained),
+            "fresh" => Ok(PackKind::Fresh),
+            _ => Err(Reason::UnknownWord),
+        }
     }
 }
 
-fn look_kind(word: &str) -> Option<LookKind>
-    ensures { result ≡ look_kind word.now }
-{
-    if word == "card" {
-        Some(LookKind::Card)
-    } else if word == "status" {
-        Some(LookKind::Status)
-    } else if word == "words" {
-        Some(LookKind::Words)
-    } else if word == "track" {
-        Some(LookKind::Track)
-    } else if word == "places" {
-        Some(LookKind::Places)
-    } else {
-        None
+impl FromWord for LookKind {
+    type Value = LookKind;
+
+    ghost said = { look_kind };
+
+    fn from_word(word: &str) -> Result<LookKind, Reason> {
+        match word {
+            "card" => Ok(LookKind::Card),
+            "status" => Ok(LookKind::Status),
+            "words" => Ok(LookKind::Words),
+            "track" => Ok(LookKind::Track),
+            "places" => Ok(LookKind::Places),
+            _ => Err(Reason::UnknownWord),
+        }
     }
 }
 
-fn field_kind(word: &str) -> Option<Field>
-    ensures { result ≡ field_kind word.now }
-{
-    if word == "id" {
-        Some(Field::Id)
-    } else if word == "data" {
-        Some(Field::Data)
-    } else {
-        None
-    }
-}
+impl FromWord for Field {
+    type Value = Field;
 
-// Each takes the first word of a text and gives what it says with the rest of the text.
-pub(crate) fn take_storage_kind(text: &str) -> Result<(StorageKind, &str), Reason>
-    ensures { left result ≡ taken storage_kind (words text.now) }
-{
-    match next_word(text) {
-        None => Err(Reason::WordMissing),
-        Some((first, rest)) => match storage_kind(first) {
-            Some(kind) => Ok((kind, rest)),
-            None => Err(Reason::UnknownWord),
-        },
-    }
-}
+    ghost said = { field_kind };
 
-pub(crate) fn take_pack_kind(text: &str) -> Result<(PackKind, &str), Reason>
-    ensures { left result ≡ taken pack_kind (words text.now) }
-{
-    match next_word(text) {
-        None => Err(Reason::WordMissing),
-        Some((first, rest)) => match pack_kind(first) {
-            Some(kind) => Ok((kind, rest)),
-            None => Err(Reason::UnknownWord),
-        },
-    }
-}
-
-pub(crate) fn take_look_kind(text: &str) -> Result<(LookKind, &str), Reason>
-    ensures { left result ≡ taken look_kind (words text.now) }
-{
-    match next_word(text) {
-        None => Err(Reason::WordMissing),
-        Some((first, rest)) => match look_kind(first) {
-            Some(kind) => Ok((kind, rest)),
-            None => Err(Reason::UnknownWord),
-        },
-    }
-}
-
-pub(crate) fn take_field(text: &str) -> Result<(Field, &str), Reason>
-    ensures { left result ≡ taken field_kind (words text.now) }
-{
-    match next_word(text) {
-        None => Err(Reason::WordMissing),
-        Some((first, rest)) => match field_kind(first) {
-            Some(field) => Ok((field, rest)),
-            None => Err(Reason::NoField),
-        },
+    fn from_word(word: &str) -> Result<Field, Reason> {
+        match word {
+            "id" => Ok(Field::Id),
+            "data" => Ok(Field::Data),
+            _ => Err(Reason::NoField),
+        }
     }
 }

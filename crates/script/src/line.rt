@@ -39,6 +39,7 @@ pub struct DefectAt {
 }
 
 // The keys of a keyed storage: how many the line has, and the first 32 of them; zeros behind.
+// kept: a line takes no heap, and it counts keys past the 32 that it holds, as no vector's length does
 #[derive(Clone, Copy)]
 pub struct Keys {
     pub count: usize,

@@ -1,62 +1,68 @@
 // Numbers as words say them.
-ghost use Rattle.std.specs.Prelude.{◌≡◌, ◌≤◌, IfOk};
+#![tactic(auto, using(crate::proofs::Reading::no_number))]
+
+ghost use Rattle.std.specs.Prelude.{◌≡◌, ◌≤◌};
 ghost use Rattle.std.specs.Result.{result_ok};
 ghost use Rattle.script.specs.Figures.{number, word, byte, address, decimal};
 
+use crate::hex::{Address, Byte, Word};
 use crate::reason::Reason;
+use crate::take::FromWord;
 
-// hexadecimal digits, in either case, for a value up to `most`
-fn hexadecimal(text: &str, most: u32) -> Result<u32, Reason>
-    ensures value { result_ok result ≡ number 16 most text.now }
-    ensures bound { IfOk result (λ n. n ≤ most) }
+// A number in decimal digits.
+pub(crate) struct Decimal;
+
+// a number of digits alone, in either case
+fn number(word: &str, radix: u32) -> Result<u32, Reason>
+    requires low { 2 ≤ radix }
+    requires high { radix ≤ 16 }
+    ensures { result_ok result ≡ number radix 0xFFFF_FFFF word.now }
 {
-    if text.starts_with('+') {
+    if word.starts_with('+') {
         return Err(Reason::NoNumber);
     }
-    match u32::from_str_radix(text, 16) {
-        Ok(value) => {
-            if value <= most {
-                Ok(value)
-            } else {
-                Err(Reason::NoNumber)
-            }
-        }
-        Err(_) => Err(Reason::NoNumber),
+    u32::from_str_radix(word, radix).map_err(|_| Reason::NoNumber)
+}
+
+impl FromWord for Word {
+    type Value = u16;
+
+    ghost said = { word };
+
+    fn from_word(word: &str) -> Result<u16, Reason> {
+        u16::try_from(number(word, 16)?).map_err(|_| Reason::NoNumber)
     }
 }
 
-pub(crate) fn read_word(text: &str) -> Result<u16, Reason>
-    ensures { result_ok result ≡ word text.now }
-{
-    match hexadecimal(text, 0xFFFF) {
-        Ok(value) => Ok(value as u16),
-        Err(reason) => Err(reason),
+impl FromWord for Byte {
+    type Value = u8;
+
+    ghost said = { byte };
+
+    fn from_word(word: &str) -> Result<u8, Reason> {
+        u8::try_from(number(word, 16)?).map_err(|_| Reason::NoNumber)
     }
 }
 
-pub(crate) fn read_byte(text: &str) -> Result<u8, Reason>
-    ensures { result_ok result ≡ byte text.now }
-{
-    match hexadecimal(text, 0xFF) {
-        Ok(value) => Ok(value as u8),
-        Err(reason) => Err(reason),
+impl FromWord for Address {
+    type Value = u32;
+
+    ghost said = { address };
+
+    fn from_word(word: &str) -> Result<u32, Reason> {
+        let address = Some(number(word, 16)?);
+        address
+            .filter(|address| *address <= 0xF_FFFF)
+            .ok_or(Reason::NoNumber)
     }
 }
 
-pub(crate) fn read_address(text: &str) -> Result<u32, Reason>
-    ensures { result_ok result ≡ address text.now }
-{
-    hexadecimal(text, 0xF_FFFF)
-}
+impl FromWord for Decimal {
+    type Value = u32;
 
-pub(crate) fn read_decimal(text: &str) -> Result<u32, Reason>
-    ensures { result_ok result ≡ decimal text.now }
-{
-    if text.starts_with('+') {
-        return Err(Reason::NoNumber);
-    }
-    match u32::from_str_radix(text, 10) {
-        Ok(value) => Ok(value),
-        Err(_) => Err(Reason::NoNumber),
+    ghost said = { decimal };
+
+    fn from_word(word: &str) -> Result<u32, Reason> {
+        number(word, 10)
     }
 }

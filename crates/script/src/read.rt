@@ -10,7 +10,8 @@ use crate::line::Line;
 use crate::looks::read_look;
 use crate::reason::Reason;
 use crate::set_ups::{read_name, read_set_up};
-use crate::verb::{Verb, read_verb};
+use crate::take::FromWord;
+use crate::verb::Verb;
 use crate::words::next_word;
 
 // the words behind a verb
@@ -18,22 +19,12 @@ fn read_after(verb: Verb, text: &str) -> Result<Line<'_>, Reason>
     ensures { option_map placeless_line (result_ok result) ≡ line_by verb (words text.now) }
 {
     match verb {
-        Verb::Calls(verb) => {
-            let call = read_call(verb, text)?;
-            Ok(Line::Call(call))
-        }
-        Verb::SetsUp(verb) => {
-            let set_up = read_set_up(verb, text)?;
-            Ok(Line::SetUp(set_up))
-        }
-        Verb::Saves => {
-            let name = read_name(text)?;
-            Ok(Line::Save { name })
-        }
-        Verb::Shows => {
-            let look = read_look(text)?;
-            Ok(Line::Look(look))
-        }
+        Verb::Calls(verb) => Ok(Line::Call(read_call(verb, text)?)),
+        Verb::SetsUp(verb) => Ok(Line::SetUp(read_set_up(verb, text)?)),
+        Verb::Saves => Ok(Line::Save {
+            name: read_name(text)?,
+        }),
+        Verb::Shows => Ok(Line::Look(read_look(text)?)),
     }
 }
 
@@ -41,16 +32,11 @@ fn read_after(verb: Verb, text: &str) -> Result<Line<'_>, Reason>
 pub fn read_line(text: &str) -> Result<Line<'_>, Reason>
     ensures { option_map placeless_line (result_ok result) ≡ line_of (words text.now) }
 {
-    match next_word(text) {
-        None => Ok(Line::Blank),
-        Some((word, rest)) => {
-            if word.starts_with('#') {
-                return Ok(Line::Blank);
-            }
-            match read_verb(word) {
-                None => Err(Reason::UnknownWord),
-                Some(verb) => read_after(verb, rest),
-            }
-        }
+    let Some((word, rest)) = next_word(text) else {
+        return Ok(Line::Blank);
+    };
+    if word.starts_with('#') {
+        return Ok(Line::Blank);
     }
+    read_after(Verb::from_word(word)?, rest)
 }

@@ -1,5 +1,5 @@
 // Set-up lines, from their words.
-ghost use Rattle.std.specs.Prelude.{◌≡◌, slice_set};
+ghost use Rattle.std.specs.Prelude.{◌≡◌};
 ghost use Rattle.std.specs.Option.{option_map};
 ghost use Rattle.std.specs.Result.{result_ok};
 ghost use Rattle.script.specs.Kinds.{storage_kind, pack_kind};
@@ -7,32 +7,22 @@ ghost use Rattle.script.specs.Readings.{placeless, name_of, keys_of, storage_by,
 ghost use Rattle.script.specs.Takes.{first};
 ghost use Rattle.script.specs.Words.{words};
 
-use crate::kinds::{PackKind, StorageKind, take_field, take_pack_kind, take_storage_kind};
+use crate::hex::{Address, Byte};
+use crate::kinds::{PackKind, StorageKind};
 use crate::line::{DefectAt, Keys, SetUp};
-use crate::numbers::read_byte;
+use crate::numbers::Decimal;
 use crate::reason::Reason;
-use crate::take::{ended, take_address, take_byte, take_decimal, take_name};
+use crate::take::{FromWord, ended, take, take_name};
 use crate::verb::SetUpVerb;
 use crate::words::next_word;
+use drive::defect::Field;
 
 // The only word of a text.
 pub(crate) fn read_name(text: &str) -> Result<&str, Reason>
     ensures { option_map (λ x. x.now) (result_ok result) ≡ name_of (words text.now) }
 {
     let (name, rest) = take_name(text)?;
-    match next_word(rest) {
-        None => Ok(name),
-        Some(_) => Err(Reason::WordTooMany),
-    }
-}
-
-// a key in its place, if there is one
-fn put_key(keys: &mut [u8], at: usize, key: u8)
-    ensures { keys.new ≡ slice_set keys.old at key }
-{
-    if at < keys.len() {
-        keys[at] = key;
-    }
+    ended(name, rest)
 }
 
 // each word a key
@@ -42,9 +32,12 @@ fn read_keys(text: &str) -> Result<Keys, Reason>
     let mut count = 0;
     let mut keys = [0; 32];
     let mut rest = text;
+    // kept: `next_word` alone says what a word is; a chain over the text would say it a second time
     while let Some((word, more)) = next_word(rest) {
-        let key = read_byte(word)?;
-        put_key(&mut keys, count, key);
+        let key = Byte::from_word(word)?;
+        if count < keys.len() {
+            keys[count] = key;
+        }
         count += 1;
         rest = more;
     }
@@ -54,38 +47,34 @@ fn read_keys(text: &str) -> Result<Keys, Reason>
 fn read_storage(text: &str) -> Result<SetUp<'_>, Reason>
     ensures { option_map placeless (result_ok result) ≡ first storage_kind storage_by (words text.now) }
 {
-    let (kind, rest) = take_storage_kind(text)?;
+    let (kind, rest) = take::<StorageKind>(text)?;
     match kind {
         StorageKind::Plain => {
-            let (size, rest) = take_decimal(rest)?;
+            let (size, rest) = take::<Decimal>(rest)?;
             ended(SetUp::StoragePlain { size }, rest)
         }
-        StorageKind::Keyed => {
-            let keys = read_keys(rest)?;
-            Ok(SetUp::StorageKeyed { keys })
-        }
-        StorageKind::File => {
-            let name = read_name(rest)?;
-            Ok(SetUp::StorageFile { name })
-        }
+        StorageKind::Keyed => Ok(SetUp::StorageKeyed {
+            keys: read_keys(rest)?,
+        }),
+        StorageKind::File => Ok(SetUp::StorageFile {
+            name: read_name(rest)?,
+        }),
     }
 }
 
 fn read_pack(text: &str) -> Result<SetUp<'_>, Reason>
     ensures { option_map placeless (result_ok result) ≡ first pack_kind pack_by (words text.now) }
 {
-    let (kind, rest) = take_pack_kind(text)?;
+    let (kind, rest) = take::<PackKind>(text)?;
     match kind {
-        PackKind::Plain => {
-            let name = read_name(rest)?;
-            Ok(SetUp::PackPlain { name })
-        }
-        PackKind::Chained => {
-            let name = read_name(rest)?;
-            Ok(SetUp::PackChained { name })
-        }
+        PackKind::Plain => Ok(SetUp::PackPlain {
+            name: read_name(rest)?,
+        }),
+        PackKind::Chained => Ok(SetUp::PackChained {
+            name: read_name(rest)?,
+        }),
         PackKind::Fresh => {
-            let (heads, rest) = take_decimal(rest)?;
+            let (heads, rest) = take::<Decimal>(rest)?;
             ended(SetUp::PackFresh { heads }, rest)
         }
     }
@@ -95,10 +84,10 @@ fn read_pack(text: &str) -> Result<SetUp<'_>, Reason>
 fn read_defect(text: &str) -> Result<DefectAt, Reason>
     ensures { result_ok result ≡ defect_of (words text.now) }
 {
-    let (field, rest) = take_field(text)?;
-    let (cylinder, rest) = take_decimal(rest)?;
-    let (head, rest) = take_decimal(rest)?;
-    let (place, rest) = take_decimal(rest)?;
+    let (field, rest) = take::<Field>(text)?;
+    let (cylinder, rest) = take::<Decimal>(rest)?;
+    let (head, rest) = take::<Decimal>(rest)?;
+    let (place, rest) = take::<Decimal>(rest)?;
     let defect = DefectAt {
         field,
         cylinder,
@@ -116,28 +105,22 @@ pub(crate) fn read_set_up(verb: SetUpVerb, text: &str) -> Result<SetUp<'_>, Reas
         SetUpVerb::Storage => read_storage(text),
         SetUpVerb::Pack => read_pack(text),
         SetUpVerb::Device => {
-            let (device, rest) = take_byte(text)?;
+            let (device, rest) = take::<Byte>(text)?;
             ended(SetUp::Device { device }, rest)
         }
         SetUpVerb::Parity => {
-            let (address, rest) = take_address(text)?;
+            let (address, rest) = take::<Address>(text)?;
             ended(SetUp::Parity { address }, rest)
         }
         SetUpVerb::Unparity => {
-            let (address, rest) = take_address(text)?;
+            let (address, rest) = take::<Address>(text)?;
             ended(SetUp::Unparity { address }, rest)
         }
-        SetUpVerb::Defect => {
-            let defect = read_defect(text)?;
-            Ok(SetUp::Defect(defect))
-        }
-        SetUpVerb::Undefect => {
-            let defect = read_defect(text)?;
-            Ok(SetUp::Undefect(defect))
-        }
+        SetUpVerb::Defect => Ok(SetUp::Defect(read_defect(text)?)),
+        SetUpVerb::Undefect => Ok(SetUp::Undefect(read_defect(text)?)),
         SetUpVerb::Fresh => {
-            let (cylinder, rest) = take_decimal(text)?;
-            let (head, rest) = take_decimal(rest)?;
+            let (cylinder, rest) = take::<Decimal>(text)?;
+            let (head, rest) = take::<Decimal>(rest)?;
             ended(SetUp::Fresh { cylinder, head }, rest)
         }
     }

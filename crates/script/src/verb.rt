@@ -1,6 +1,11 @@
 // The first words of lines.
 ghost use Rattle.std.specs.Prelude.{◌≡◌};
-ghost use Rattle.script.specs.Verbs.{call_text, set_up_text, verb_text, verb_among, verb_of};
+ghost use Rattle.script.specs.Verbs.{call_text, set_up_text, verb_text, verb_of};
+ghost use Rattle.script.specs.Printings.{call_verb};
+
+use crate::reason::Reason;
+use crate::take::FromWord;
+use card::call::Call;
 
 // of a call
 #[derive(Clone, Copy)]
@@ -101,21 +106,29 @@ impl Verb {
     }
 }
 
-// the first verb of some that a word is
-fn verb_among(verbs: &[Verb], word: &str) -> Option<Verb>
-    ensures { result ≡ verb_among verbs.now word.now }
-{
-    for verb in verbs {
-        if word == verb.text() {
-            return Some(*verb);
-        }
+impl FromWord for Verb {
+    type Value = Verb;
+
+    ghost said = { verb_of };
+
+    fn from_word(word: &str) -> Result<Verb, Reason> {
+        let verb = VERBS.iter().find(|verb| word == verb.text());
+        verb.copied().ok_or(Reason::UnknownWord)
     }
-    None
 }
 
-// The verb that a word is, if any.
-pub(crate) fn read_verb(word: &str) -> Option<Verb>
-    ensures { result ≡ verb_of word.now }
-{
-    verb_among(&VERBS, word)
+impl From<Call> for CallVerb {
+    ghost from_gives = { λ call verb. verb ≡ call_verb call };
+
+    fn from(call: Call) -> CallVerb {
+        match call {
+            Call::Command { .. } => CallVerb::Command,
+            Call::Halt => CallVerb::Halt,
+            Call::Store { .. } => CallVerb::Store,
+            Call::Readiness { ready: true } => CallVerb::Ready,
+            Call::Readiness { ready: false } => CallVerb::Unready,
+            Call::Service => CallVerb::Service,
+            Call::Step => CallVerb::Step,
+        }
+    }
 }

@@ -7,18 +7,11 @@ pub(crate) fn next_word(text: &str) -> Option<(&str, &str)>
     ensures words { MatchOption result (words text.now ≡ []) (λ p. words text.now ≡ p.0.now ∷ words p.1.now) }
     ensures shorter { IfSome result (λ p. length p.1.now < length text.now) }
 {
-    let mut rest = text;
-    while let Some((front, back)) = rest.split_once(' ') {
-        if !front.is_empty() {
-            return Some((front, back));
-        }
-        rest = back;
+    let text = text.trim_start_matches(' ');
+    if text.is_empty() {
+        return None;
     }
-    if rest.is_empty() {
-        None
-    } else {
-        Some((rest, ""))
-    }
+    Some(text.split_once(' ').unwrap_or((text, "")))
 }
 
 // The first line of a text, without its end, with what follows; no more follows the last line.
@@ -35,8 +28,5 @@ pub fn next_line(text: &str) -> (&str, Option<&str>)
 fn without_return(line: &str) -> &str
     ensures { result.now ≡ unreturned line.now }
 {
-    match line.strip_suffix('\r') {
-        None => line,
-        Some(front) => front,
-    }
+    line.strip_suffix('\r').unwrap_or(line)
 }

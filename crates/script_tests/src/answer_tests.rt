@@ -34,9 +34,9 @@ fn calls_are_printed(rt: HostRuntime) -> Result<(), Fail> {
         ("step", "step"),
         ("# step", "no call"),
     ];
-    for case in cases.iter() {
-        let line = again(rt.alloc(), case.0)?;
-        assert!(rt; line.as_str() == case.1, "{}", case.0);
+    for (text, due) in &cases {
+        let line = again(rt.alloc(), text)?;
+        assert!(rt; line.as_str() == *due, "{}", *text);
     }
     Ok(())
 }

@@ -23,21 +23,22 @@ fn told_call(heap: Global, call: Call) -> Result<String, AllocError> {
 }
 
 fn told_keys(heap: Global, keys: Keys) -> Result<String, AllocError> {
-    let count = keys.count;
-    let first = keys.keys[0];
-    let second = keys.keys[1];
-    let last = keys.keys[31];
+    let Keys { count, keys } = keys;
+    let [first, second, .., last] = keys;
     format!(in heap; "keys {count}: {first} {second} .. {last}")
 }
 
 fn told_defect(heap: Global, defect: DefectAt) -> Result<String, AllocError> {
-    let field = match defect.field {
+    let DefectAt {
+        field,
+        cylinder,
+        head,
+        place,
+    } = defect;
+    let field = match field {
         Field::Id => "id",
         Field::Data => "data",
     };
-    let cylinder = defect.cylinder;
-    let head = defect.head;
-    let place = defect.place;
     format!(in heap; "{field} {cylinder} {head} {place}")
 }
 
@@ -85,9 +86,9 @@ fn told(heap: Global, text: &str) -> Result<String, AllocError> {
 
 // Each line says what stands beside it.
 fn each(rt: &impl Abort, heap: Global, cases: &[(&str, &str)]) -> Result<(), Fail> {
-    for case in cases {
-        let said = told(heap, case.0)?;
-        assert!(rt; said.as_str() == case.1, "{}", case.0);
+    for (text, due) in cases {
+        let said = told(heap, text)?;
+        assert!(rt; said.as_str() == *due, "{}", *text);
     }
     Ok(())
 }

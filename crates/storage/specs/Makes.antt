@@ -8,12 +8,14 @@
 --   key_verdict     what the key of an address's block says to a key
 --   keyed_memory    storage in blocks with a key each: the block's key and key 0 open it
 --   parity_memory   a storage below, where reading a marked word is a storage data check
+--   Parity          the parity layer over a storage
 --   word_mark       what entering or lifting a parity mark answers: a mark goes on a word
 use Rattle.std.specs.Prelude.{ℕ, ◌+◌, ◌*◌, ◌/◌, ◌%◌, Bool, cond, ◌&&◌, ◌||◌, List, length, Ok, Err, Result, ◌==◌, nat_eq, nat_le, slice_index}
-use Rattle.basics.specs.Marks.{has}
+use Rattle.basics.specs.Marks.{has, where_there}
 use Rattle.basics.specs.declared.fault.Fault.TheVariants.{StorageDataCheck, InvalidAddress, ProtectCheck}
+use Rattle.basics.specs.declared.layer.Layer.{Layer}
 use Rattle.basics.specs.declared.refusal.Refusal.{Refusal}
-use Rattle.basics.specs.declared.refusal.Refusal.TheVariants.{NoSuchPlace}
+use Rattle.storage.specs.declared.parity.Words.{Words}
 use Rattle.storage.specs.Memory.{Verdict, Memory, is_word}
 
 abbrev pub lawful_size : ℕ → Bool
@@ -56,5 +58,8 @@ keyed_memory keys m = guarded (key_verdict keys) (key_verdict keys) m
 abbrev pub parity_memory : List ℕ → Memory → Memory
 parity_memory marks m = guarded (λ a k. cond (has nat_eq a marks) (Err StorageDataCheck) (Ok tt)) (λ a k. Ok tt) m
 
+abbrev pub Parity : Type 0 → Type 0
+Parity S = Layer S ℕ Words 16
+
 abbrev pub word_mark : Memory → ℕ → Result (Unit {0}) Refusal → Result (Unit {0}) Refusal
-word_mark m a answer = cond (is_word m.size a) answer (Err NoSuchPlace)
+word_mark m a answer = where_there (is_word m.size a) answer

@@ -3,6 +3,7 @@
 
 pub mod copy;
 pub mod keyed;
+mod lent;
 pub mod parity;
 pub mod plain;
 pub mod storage;

@@ -5,7 +5,7 @@ ghost use Rattle.chained_pack.specs.Lawful.{chained_fault};
 ghost use Rattle.chained_pack.specs.Laws.{Loopless, Orderly};
 
 use crate::chained::ChainedPack;
-use crate::check::fault;
+use crate::check::check;
 use basics::handed_back::HandedBack;
 
 impl ChainedPack {
@@ -15,12 +15,12 @@ impl ChainedPack {
         ensures loops { Loopless }
         ensures orderly { IfOk result (λ p. Orderly (directory p.bytes.items)) }
     {
-        match fault(bytes.as_slice()) {
-            Some(refusal) => Err(HandedBack {
+        match check(&bytes) {
+            Ok(()) => Ok(ChainedPack { bytes }),
+            Err(refusal) => Err(HandedBack {
                 refusal,
                 given: bytes,
             }),
-            None => Ok(ChainedPack { bytes }),
         }
     }
 

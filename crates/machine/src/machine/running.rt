@@ -1,10 +1,11 @@
 // A machine is begun, carries out calls, and lends what is to be shown.
-ghost use Rattle.std.specs.Prelude.{◌≡◌, true, []};
+ghost use Rattle.std.specs.Prelude.{◌≡◌, []};
 ghost use Rattle.basics.specs.Table.{held};
-ghost use Rattle.card.specs.Acts.{spares_storage, spares_drive, ends, sent, ended};
 ghost use Rattle.card.specs.Calls.{turn};
+ghost use Rattle.card.specs.Carrying.{Carries};
 ghost use Rattle.card.specs.Rules.{call};
 ghost use Rattle.runs.specs.SoFar.{GoesOn, HasLaw};
+ghost use Rattle.machine.specs.Makes.{layered_disk, layered_memory};
 ghost use Rattle.machine.specs.SetUp.{Begun, world_of};
 
 use crate::any_pack::AnyPack;
@@ -21,8 +22,8 @@ impl Machine {
     // A machine over a pack and a storage with nothing marked.
     pub fn new(device: u8, pack: AnyPack, storage: AnyStorage) -> Machine
         ensures begun { Begun device result }
-        ensures pack { (result.run.drive.below ≡ pack) × (held result.run.drive.marks ≡ []) }
-        ensures storage { (result.run.storage.below ≡ storage) × (held result.run.storage.marks ≡ []) }
+        ensures pack { (result.run.around.drive.below ≡ pack) × (held result.run.around.drive.marks ≡ []) }
+        ensures storage { (result.run.around.storage.below ≡ storage) × (held result.run.around.storage.marks ≡ []) }
     {
         Machine::begin(device, DefectLayer::new(pack), Parity::new(storage))
     }
@@ -34,8 +35,8 @@ impl Machine {
         storage: Parity<AnyStorage>,
     ) -> Machine
         ensures begun { Begun device result }
-        ensures drive { result.run.drive ≡ drive }
-        ensures storage { result.run.storage ≡ storage }
+        ensures drive { result.run.around.drive ≡ drive }
+        ensures storage { result.run.around.storage ≡ storage }
     {
         Machine {
             run: RunSoFar::start(device, drive, storage),
@@ -44,7 +45,7 @@ impl Machine {
 
     // Ends the run and gives the drive and the storage with their marks.
     pub(crate) fn end(self) -> (DefectLayer<AnyPack>, Parity<AnyStorage>)
-        ensures { result ≡ (self.run.drive, self.run.storage) }
+        ensures { result ≡ (self.run.around.drive, self.run.around.storage) }
     {
         let Machine { run } = self;
         run.stop()
@@ -53,8 +54,8 @@ impl Machine {
     // The device address is another, and a new run begins.
     pub fn set_device(self, device: u8) -> Machine
         ensures begun { Begun device result }
-        ensures drive { result.run.drive ≡ self.run.drive }
-        ensures storage { result.run.storage ≡ self.run.storage }
+        ensures drive { result.run.around.drive ≡ self.run.around.drive }
+        ensures storage { result.run.around.storage ≡ self.run.around.storage }
     {
         let (drive, storage) = self.end();
         Machine::begin(device, drive, storage)
@@ -62,11 +63,8 @@ impl Machine {
 
     // Carries out one call of the run.
     pub fn carry_out(&mut self, asked: Call) -> Answer
-        ensures turn { ends (call self.old.run.card asked) (world_of self.old) ≡ ended (turn self.new.run.card result) (world_of self.new) }
-        ensures device { self.new.run.device ≡ self.old.run.device }
+        ensures carries { Carries layered_disk layered_memory (call self.old.run.card asked) self.old.run.around (turn self.new.run.card result) self.new.run.around }
         ensures goes { GoesOn self.old.run.card (world_of self.old) asked result self.new.run.card (world_of self.new) }
-        ensures drive { spares_drive (sent (call self.old.run.card asked) (world_of self.old)) ≡ true → self.new.run.drive ≡ self.old.run.drive }
-        ensures storage { spares_storage (sent (call self.old.run.card asked) (world_of self.old)) ≡ true → self.new.run.storage ≡ self.old.run.storage }
     {
         self.run.carry_out(asked)
     }
@@ -86,21 +84,21 @@ impl Machine {
     }
 
     pub fn device(&self) -> u8
-        ensures { result ≡ self.now.run.device }
+        ensures { result ≡ self.now.run.around.device }
     {
         self.run.device()
     }
 
     // the pack with its defect layer
     pub fn drive(&self) -> &DefectLayer<AnyPack>
-        ensures { result.now ≡ self.now.run.drive }
+        ensures { result.now ≡ self.now.run.around.drive }
     {
         self.run.drive()
     }
 
     // the storage with its parity layer
     pub fn storage(&self) -> &Parity<AnyStorage>
-        ensures { result.now ≡ self.now.run.storage }
+        ensures { result.now ≡ self.now.run.around.storage }
     {
         self.run.storage()
     }

@@ -1,5 +1,5 @@
 // Set-up calls that put another storage into the machine. The pack stays, with its marks, and a new run begins.
-ghost use Rattle.std.specs.Prelude.{◌≡◌, ◌*◌, true, false, ◌&&◌, [], vec_len, MatchResult, ◌==◌};
+ghost use Rattle.std.specs.Prelude.{◌≡◌, ◌*◌, true, false, ◌&&◌, [], vec_len, MatchResult, ◌==◌, IsOkAnd, IsErrAnd};
 ghost use Rattle.basics.specs.declared.refusal.Refusal.TheVariants.{Length};
 ghost use Rattle.storage.specs.Makes.{lawful_size};
 ghost use Rattle.machine.specs.SetUp.{HoldsPlain, HoldsKeyed, WithStorage};
@@ -12,26 +12,31 @@ use storage::parity::Parity;
 use storage::plain::Plain;
 
 impl Machine {
-    // a storage in place of the one that is there, nothing marked
-    fn with_storage(self, storage: AnyStorage) -> Machine
-        ensures { WithStorage self result (λ s. s ≡ storage) [] }
+    // a storage in place of the one that is there, nothing marked, or the reason why it is none
+    fn with_storage<S: Into<AnyStorage>, G: Drop>(
+        self,
+        made: Result<S, HandedBack<G>>,
+    ) -> Result<Machine, HandedBack<Machine>>
+        ensures { MatchResult result (λ m. IsOkAnd made (λ s. WithStorage self m (S.Into.converts s) [])) (λ e. IsErrAnd made (λ back. e ≡ record { refusal = back.refusal; given = self })) }
     {
-        let device = self.device();
-        let (drive, _) = self.end();
-        Machine::begin(device, drive, Parity::new(storage))
+        match made {
+            Ok(storage) => {
+                let device = self.device();
+                let (drive, _) = self.end();
+                Ok(Machine::begin(device, drive, Parity::new(storage.into())))
+            }
+            Err(back) => Err(HandedBack {
+                refusal: back.refusal,
+                given: self,
+            }),
+        }
     }
 
     // Plain storage that holds the bytes.
     pub fn plain_storage(self, bytes: Vec<u8>) -> Result<Machine, HandedBack<Machine>>
         ensures { MatchResult result (λ m. (lawful_size (vec_len bytes) ≡ true) × WithStorage self m (HoldsPlain bytes) []) (λ e. (lawful_size (vec_len bytes) ≡ false) × (e.refusal ≡ Length) × (e.given ≡ self)) }
     {
-        match Plain::new(bytes) {
-            Ok(plain) => Ok(self.with_storage(AnyStorage::Plain(plain))),
-            Err(back) => Err(HandedBack {
-                refusal: back.refusal,
-                given: self,
-            }),
-        }
+        self.with_storage(Plain::new(bytes))
     }
 
     // Keyed storage that holds the bytes, with a key for each block.
@@ -42,12 +47,6 @@ impl Machine {
     ) -> Result<Machine, HandedBack<Machine>>
         ensures { MatchResult result (λ m. (lawful_size (vec_len bytes) && (vec_len bytes == vec_len keys * 2048) ≡ true) × WithStorage self m (HoldsKeyed bytes keys) []) (λ e. (lawful_size (vec_len bytes) && (vec_len bytes == vec_len keys * 2048) ≡ false) × (e.refusal ≡ Length) × (e.given ≡ self)) }
     {
-        match Keyed::new(bytes, keys) {
-            Ok(keyed) => Ok(self.with_storage(AnyStorage::Keyed(keyed))),
-            Err(back) => Err(HandedBack {
-                refusal: back.refusal,
-                given: self,
-            }),
-        }
+        self.with_storage(Keyed::new(bytes, keys))
     }
 }

@@ -22,8 +22,7 @@ fn put_fresh(pack: &mut [u8], at: usize, track: Track, sector: u8)
     requires { at + 264 ≤ length pack.old }
     ensures { pack.new ≡ paste pack.old at (fresh_record track sector) 264 }
 {
-    let cylinder_high = (track.cylinder / 256) as u8;
-    let cylinder_low = (track.cylinder % 256) as u8;
+    let [cylinder_high, cylinder_low] = track.cylinder.to_be_bytes();
     let header = [0, 0, 0, cylinder_high, cylinder_low, track.head, sector, 0];
     pack[at..at + DATA_AT].copy_from_slice(&header);
     pack[at + DATA_AT..at + PLACE_BYTES].fill(0);
@@ -47,9 +46,7 @@ impl PlainPack {
         ensures after { plain_disk self.new.heads self.new.bytes.items ≡ (if on_drive self.old.heads track 0 then refreshed (plain_disk self.old.heads self.old.bytes.items) track else plain_disk self.old.heads self.old.bytes.items) }
         ensures refused { is_err result ≡ true → self.new ≡ self.old }
     {
-        let Some(at) = self.start(track, 0) else {
-            return Err(Refusal::NoSuchPlace);
-        };
+        let at = self.start(track, 0).ok_or(Refusal::NoSuchPlace)?;
         put_fresh_track(self.bytes.as_mut_slice(), at, track);
         Ok(())
     }

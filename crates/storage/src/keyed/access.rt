@@ -1,5 +1,6 @@
 // Keyed storage is made of its bytes and a key for each block, and asks for the key at each access.
-ghost use Rattle.std.specs.Prelude.{◌≡◌, ◌*◌, ◌/◌, ◌%◌, true, false, ◌&&◌, vec_len, MatchResult, ◌==◌, slice_index};
+ghost use Rattle.std.specs.Prelude.{◌≡◌, ◌*◌, ◌/◌, ◌%◌, true, false, ◌&&◌, vec_len, MatchResult, ◌==◌, slice_get};
+ghost use Rattle.std.specs.Option.{option_map};
 ghost use Rattle.basics.specs.declared.refusal.Refusal.TheVariants.{Length};
 ghost use Rattle.storage.specs.Makes.{lawful_size, plain_memory, keyed_memory, key_verdict};
 ghost use Rattle.std.proofs.Common.{rules, arith};
@@ -24,32 +25,27 @@ impl Keyed {
         }
         match Plain::new(bytes) {
             Ok(plain) => Ok(Keyed { plain, keys }),
-            Err(back) => {
-                let HandedBack { refusal, given } = back;
-                Err(HandedBack {
-                    refusal,
-                    given: (given, keys),
-                })
-            }
+            Err(HandedBack { refusal, given }) => Err(HandedBack {
+                refusal,
+                given: (given, keys),
+            }),
         }
     }
 
-    // the key of the block of an address; past the last block it is zero
-    fn block_key(&self, address: u32) -> u8
-        ensures { result ≡ slice_index self.now.keys.items (address / 2048) % 8 }
+    // the key of the block of an address; past the last block there is none
+    fn block_key(&self, address: u32) -> Option<u8>
+        ensures { result ≡ option_map (λ k. k % 8) (slice_get self.now.keys.items (address / 2048)) }
     {
-        let block = address as usize / BLOCK_BYTES;
-        if block >= self.keys.len() {
-            return 0;
-        }
-        self.keys[block] % 8
+        self.keys
+            .get(address as usize / BLOCK_BYTES)
+            .map(|key| key % 8)
     }
 
     // whether the key opens the block of the address
     fn open(&self, address: u32, key: u8) -> Result<(), Fault>
         ensures { result ≡ key_verdict self.now.keys.items address (key % 8) }
     {
-        if key % 8 == 0 || key % 8 == self.block_key(address) {
+        if key % 8 == 0 || self.block_key(address) == Some(key % 8) {
             return Ok(());
         }
         Err(Fault::ProtectCheck)

@@ -15,8 +15,7 @@ impl Plain {
     pub fn new(bytes: Vec<u8>) -> Result<Plain, HandedBack<Vec<u8>>>
         ensures { MatchResult result (λ p. (lawful_size (vec_len bytes) ≡ true) × (p.bytes ≡ bytes)) (λ e. (lawful_size (vec_len bytes) ≡ false) × (e.refusal ≡ Length) × (e.given ≡ bytes)) }
     {
-        let size = bytes.len();
-        if size % 2 != 0 || size < 2 || size > 65536 {
+        if bytes.len() % 2 != 0 || !(2..=65536).contains(&bytes.len()) {
             return Err(HandedBack {
                 refusal: Refusal::Length,
                 given: bytes,
@@ -54,8 +53,9 @@ impl Storage for Plain {
     fn store(&mut self, address: u32, key: u8, word: u16) -> Result<(), Fault> {
         self.check(address)?;
         let at = address as usize;
-        self.bytes[at] = (word / 256) as u8;
-        self.bytes[at + 1] = (word % 256) as u8;
+        let [high, low] = word.to_be_bytes();
+        self.bytes[at] = high;
+        self.bytes[at + 1] = low;
         Ok(())
     }
 }

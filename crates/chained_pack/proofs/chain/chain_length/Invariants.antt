@@ -3,4 +3,4 @@ use Rattle.chained_pack.proofs.Lengths.{Measured}
 use Rattle.chained_pack.proofs.chain.chain_length.Given as goal
 
 abbrev pub invariant-loop-records : goal.invariant-loop-records
-invariant-loop-records l = Measured (directory l.pack) l.chain l.records l.index
+invariant-loop-records l = Measured (directory l.image.bytes.now) l.chain l.records l.index

@@ -1,8 +1,8 @@
 use Rattle.std.proofs.Common.{◌≡◌, ◌%◌, length, refl, ap, ◌∙◌, arith}
 use Rattle.drive.specs.Disk.{is_good}
-use Rattle.drive.specs.Defective.{good_from}
+use Rattle.drive.proofs.Defective.{good_from}
 use Rattle.machine.specs.Sums.{weighed, front}
-use Rattle.machine.proofs.Weighing.{turn, front_from, place_good, place_bad, bad_from}
+use Rattle.machine.proofs.Weighing.{turn, high_byte, low_byte, front_from, place_good, place_bad, bad_from}
 use Rattle.machine.proofs.sums.place_sum.Goals as goal
 use Rattle.machine.proofs.sums.place_sum.Goals.{in-Ok, in-Err}
 
@@ -14,8 +14,11 @@ weigh-behind-requires g c =
 pub returns : goal.returns
 returns g c =
     let s = (g.D.Drive.meaning c.args.drive.now).sector c.args.track c.args.place in
-    let listed = front_from s c.id-field.result c.data_condition.result c.condition_byte.result c.condition_byte-2.result
-    c.id-field.ensures c.data_condition.ensures c.condition_byte.ensures c.condition_byte-2.ensures in
+    let f = c.id-field.result in
+    let listed = front_from s f c.data_condition.result c.from.result c.from-2.result _ _
+    c.id-field.ensures c.data_condition.ensures c.from.ensures c.from-2.ensures
+    (high_byte f.id.cylinder c.to_be_bytes.result (omega arith) c.to_be_bytes.ensures)
+    (low_byte f.id.cylinder c.to_be_bytes.result c.to_be_bytes.ensures) in
     let first : c.weigh.result ≡ weighed 1 (front s) % turn = c.weigh.ensures ∙ ap (λ xs. weighed 1 xs % turn) listed in
     elim c.match-read.branch [
       | in-Ok w ↦ place_good (front s) s.datum.bytes (is_good s.id.condition) c.weigh.result c.match-read.behind refl first

@@ -1,6 +1,9 @@
-use Rattle.std.proofs.Output.{has_written_of_eq}
-use Rattle.script.proofs.Digits.{hex_four}
+use Rattle.std.proofs.Common.{◌-◌, ◌^◌, ◌<◌, refl, arith, lit<, lit≤}
+use Rattle.std.specs.Fmt.{digits_output, format_spec, styled_digits_output}
+use Rattle.script.proofs.Digits.{wrote_hex}
 use Rattle.script.proofs.hex.WordDisplay.fmt.Goals as goal
 
 pub returns-clause-writes : goal.returns-clause-writes
-returns-clause-writes g c plain ok = has_written_of_eq _ _ _ _ _ (hex_four c.args.self.now.0 _ _ _ _ c.digit-a.ensures c.digit-b.ensures c.digit-c.ensures c.digit-d.ensures) (c.write.ensures.writes plain ok)
+returns-clause-writes g c =
+    let small : c.args.self.now.0 < 65536 = omega arith in
+    wrote_hex _ _ _ _ 4 _ (digits_output c.in_radix.result) (styled_digits_output c.in_radix.result) c.laid_out.result (format_spec 32 0 4 4 (2 ^ 64 - 1)) c.laid_out.ensures refl c.in_radix.ensures (lit< tt) (lit≤ tt) small c.write.ensures.writes

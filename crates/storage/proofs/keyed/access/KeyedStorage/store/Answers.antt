@@ -1,19 +1,16 @@
-use Rattle.std.proofs.Common.{◌%◌, is_err, Ok, vec_items, sym, ap, ◌∙◌}
-use Rattle.std.proofs.lemmas.Bool.{false≢true}
-use Rattle.storage.specs.Makes.{inside, plain_memory, key_verdict, keyed_memory}
-use Rattle.storage.specs.Layers.{then_ok, stored_below}
+use Rattle.std.proofs.Common.{◌≡◌, ◌%◌, Ok, Err, refl, ap, ◌∙◌}
+use Rattle.storage.specs.Memory.{Verdict, Memory, with_word, where_allowed}
+use Rattle.storage.specs.Makes.{plain_memory, and_then, keyed_memory}
 use Rattle.storage.proofs.keyed.access.KeyedStorage.store.Goals as goal
 
-pub returns : goal.returns
-returns c =
-    let keys = vec_items c.args.self.now.keys in
-    let m = plain_memory (vec_items c.args.self.now.plain.bytes) in
-    let opens = c.in_ok-open.ensures in
-    let below = c.store.ensures in
-    let k = c.args.key % 8 in
-    let len = ap (λ n. inside n c.args.address (Ok tt)) c.args.self.now.plain.bytes.ok.0 in
-    record {
-      verdict = below.verdict ∙ then_ok _ _ _ opens;
-      after = ap (keyed_memory keys) below.after ∙ stored_below (key_verdict keys) (key_verdict keys) m c.args.address k c.args.word _ opens;
-      refused = λ e. absurd (false≢true (ap is_err (c.in_ok-check.ensures ∙ len ∙ sym below.verdict) ∙ e));
-    }
+-- what a layer allows is stored below, and nowhere else
+stored_below : (g : Memory → Memory) (v u : Verdict) (x : Unit {0}) (after before : Memory) → Ok x ≡ u → g (where_allowed v after before) ≡ where_allowed (and_then v u) (g after) (g before)
+stored_below g (Ok _) u x after before ok = ap (λ t. where_allowed t (g after) (g before)) ok
+stored_below g (Err f) u x after before ok = refl
+
+pub returns-clause-after : goal.returns-clause-after
+returns-clause-after c =
+    let keys = c.args.self.now.keys.items in
+    let m = plain_memory c.args.self.now.plain.bytes.items in
+    ap (keyed_memory keys) c.store.ensures.after
+    ∙ stored_below (keyed_memory keys) (m.stores c.args.address (c.args.key % 8)) _ _ (with_word m c.args.address c.args.word) m c.in_ok-open.ensures

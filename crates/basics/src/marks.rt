@@ -1,4 +1,6 @@
 // A table of marks of fixed size: what is entered stays until it is lifted, and a freed entry can be used again.
+ghost use Rattle.std.specs.Prelude.{◌≤◌, length};
+
 use arrayvec::ArrayVec;
 
 mod methods;
@@ -7,4 +9,5 @@ mod methods;
 #[derive(Drop)]
 pub struct Marks<T, const N: usize> {
     entries: ArrayVec<T, N>,
+    ghost few: { length entries.items ≤ N },
 }

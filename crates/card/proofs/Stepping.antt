@@ -1,4 +1,6 @@
 -- How the parts of a step come out. Assumes nothing.
+use Rattle.std.specs.Borrow.{GName}
+use Rattle.std.specs.Prelude.{Option}
 use Rattle.std.proofs.Common.{◌≡◌, ℕ, zero, suc, ◌+◌, ◌*◌, ◌/◌, min, Bool, true, false, cond, List, [], ◌∷◌, length, take, map, w16, sym, refl, ap, ◌∙◌, subst, ap₂, ⊎_elim, arith}
 use Rattle.std.specs.Int.{from_be_bytes}
 use Rattle.std.specs.List.{take-map}
@@ -70,38 +72,38 @@ four_words c b words n is is_count =
         (λ high. take_all j l (omega arith) ∙ sym (take_all (min j 4) l (omega arith)))
         (cases_lt j 4)
 
-module _ {D S : Type 0} (disk : D → Disk) (memory : S → Memory) (before after : Surroundings D S) (x : Turn) (c : Card) (b : Block) where
+module _ {D S : Type 0} (disk : D → Disk) (memory : S → Memory) (drive_loan : D → Option GName) (storage_loan : S → Option GName) (before after : Surroundings D S) (x : Turn) (c : Card) (b : Block) where
   -- a sector that was found is read: by what the stores came to
   pub read_carries : (n : ℕ) (t : Track) (p : ℕ) (m : Moved) (ws : List ℕ) (a k : ℕ)
       → is_good ((disk before.drive).sector t p).datum.condition ≡ true → ws ≡ take (words_left b n) (words_of ((disk before.drive).sector t p).datum.bytes)
       → a ≡ sector_address b n → k ≡ key b
-      → Carries disk memory (store_words ws a k c.residual) before m after → Looks disk memory (transferred c b n m) after x → Carries disk memory (read_sector c b n t p) before x after
+      → Carries disk memory drive_loan storage_loan (store_words ws a k c.residual) before m after → Looks disk memory (transferred c b n m) after x → Carries disk memory drive_loan storage_loan (read_sector c b n t p) before x after
   read_carries n t p m ws a k good is_words is_address is_key stores rest =
       let go : Moved → Act Turn = λ m'. transferred c b n m' in
       let rule : List ℕ → ℕ → ℕ → Act Turn = λ l y z. then (store_words l y z c.residual) go in
       let same : rule ws a k ≡ rule (take (words_left b n) (words_of ((disk before.drive).sector t p).datum.bytes)) (sector_address b n) (key b) =
       ap (λ (l : List ℕ). rule l a k) is_words ∙ ap₂ (λ (y z : ℕ). rule (take (words_left b n) (words_of ((disk before.drive).sector t p).datum.bytes)) y z) is_address is_key in
-      carries_ask disk memory before after x (condition_of t p) _
-      (carries_cond disk memory before after x _ _ _ good
-      (carries_ask disk memory before after x (data_of t p) _
-      (subst (λ (r : Act Turn). Carries disk memory r before x after) same (carries_first disk memory before after x (store_words ws a k c.residual) go m stores rest))))
+      carries_ask disk memory drive_loan storage_loan before after x (condition_of t p) _
+      (carries_cond disk memory drive_loan storage_loan before after x _ _ _ good
+      (carries_ask disk memory drive_loan storage_loan before after x (data_of t p) _
+      (subst (λ (r : Act Turn). Carries disk memory drive_loan storage_loan r before x after) same (carries_first disk memory drive_loan storage_loan before after x (store_words ws a k c.residual) go m stores rest))))
 
   -- a sector that was found is written: by what the fetches came to
   pub write_carries : (n : ℕ) (t : Track) (p count a k : ℕ) (f : Fetched) → count ≡ words_left b n → a ≡ sector_address b n → k ≡ key b
-      → Looks disk memory (fetch_words count a k c.residual) before f → Carries disk memory (gathered c b n t p f) before x after → Carries disk memory (write_data_sector c b n t p) before x after
+      → Looks disk memory (fetch_words count a k c.residual) before f → Carries disk memory drive_loan storage_loan (gathered c b n t p f) before x after → Carries disk memory drive_loan storage_loan (write_data_sector c b n t p) before x after
   write_carries n t p count a k f is_count is_address is_key fetches rest =
       let go : Fetched → Act Turn = λ g. gathered c b n t p g in
       let rule : ℕ → ℕ → ℕ → Act Turn = λ j y z. then (fetch_words j y z c.residual) go in
       let same : rule count a k ≡ rule (words_left b n) (sector_address b n) (key b) =
       ap (λ (j : ℕ). rule j a k) is_count ∙ ap₂ (λ (y z : ℕ). rule (words_left b n) y z) is_address is_key in
-      subst (λ (r : Act Turn). Carries disk memory r before x after) same (carries_second disk memory before after x (fetch_words count a k c.residual) go f fetches rest)
+      subst (λ (r : Act Turn). Carries disk memory drive_loan storage_loan r before x after) same (carries_second disk memory drive_loan storage_loan before after x (fetch_words count a k c.residual) go f fetches rest)
 
   -- status is sent: by what the stores came to
   pub status_carries : (m : Moved) (ws : List ℕ) (a k : ℕ) → ws ≡ take (count b / 2) (status_words c) → a ≡ data_address b → k ≡ key b
-      → Carries disk memory (store_words ws a k c.residual) before m after → Looks disk memory (status_sent c b m.stopped) after x → Carries disk memory (send_status c b) before x after
+      → Carries disk memory drive_loan storage_loan (store_words ws a k c.residual) before m after → Looks disk memory (status_sent c b m.stopped) after x → Carries disk memory drive_loan storage_loan (send_status c b) before x after
   status_carries m ws a k is_words is_address is_key stores rest =
       let go : Moved → Act Turn = λ m'. status_sent c b m'.stopped in
       let rule : List ℕ → ℕ → ℕ → Act Turn = λ l y z. then (store_words l y z c.residual) go in
       let same : rule ws a k ≡ rule (take (count b / 2) (status_words c)) (data_address b) (key b) =
       ap (λ (l : List ℕ). rule l a k) is_words ∙ ap₂ (λ (y z : ℕ). rule (take (count b / 2) (status_words c)) y z) is_address is_key in
-      subst (λ (r : Act Turn). Carries disk memory r before x after) same (carries_first disk memory before after x (store_words ws a k c.residual) go m stores rest)
+      subst (λ (r : Act Turn). Carries disk memory drive_loan storage_loan r before x after) same (carries_first disk memory drive_loan storage_loan before after x (store_words ws a k c.residual) go m stores rest)

@@ -177,6 +177,7 @@ impl Card {
 pub fn processor_store<S: Storage>(storage: &mut S, address: u32, key: u8, word: u16) -> Answer
     ensures came { (c : Card) (v : ℕ) (d : Disk) → ends (store c address key word) (world v d (S.meaning storage.old)) ≡ ended (turn c result) (world v d (S.meaning storage.new)) }
     ensures storage { (c : Card) (v : ℕ) (d : Disk) → spares_storage (sent (store c address key word) (world v d (S.meaning storage.old))) ≡ true → storage.new ≡ storage.old }
+    ensures lent { S.loan storage.new ≡ S.loan storage.old }
 {
     match storage.store(address, key, word) {
         Ok(()) => Answer::Done,

@@ -18,7 +18,7 @@ impl Card {
         around: &mut Surroundings<D, S>,
         asked: Call,
     ) -> Answer
-        ensures { Carries D.meaning S.meaning (call self.old asked) around.old (turn self.new result) around.new }
+        ensures { Carries D.meaning S.meaning D.loan S.loan (call self.old asked) around.old (turn self.new result) around.new }
     {
         match asked {
             Call::Command {

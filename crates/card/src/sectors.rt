@@ -96,7 +96,7 @@ impl Card {
         place: u8,
     ) -> Answer
         requires { is_good ((D.meaning around.old.drive).sector (under_heads self.old.position) place).id.condition ≡ true }
-        ensures { Carries D.meaning S.meaning (read_sector self.old progress.block progress.done (under_heads self.old.position) place) around.old (turn self.new result) around.new }
+        ensures { Carries D.meaning S.meaning D.loan S.loan (read_sector self.old progress.block progress.done (under_heads self.old.position) place) around.old (turn self.new result) around.new }
     {
         let device = around.device;
         let track = self.position.track();
@@ -129,7 +129,7 @@ impl Card {
         place: u8,
     ) -> Answer
         requires { is_good ((D.meaning around.old.drive).sector (under_heads self.old.position) place).id.condition ≡ true }
-        ensures { Carries D.meaning S.meaning (write_data_sector self.old progress.block progress.done (under_heads self.old.position) place) around.old (turn self.new result) around.new }
+        ensures { Carries D.meaning S.meaning D.loan S.loan (write_data_sector self.old progress.block progress.done (under_heads self.old.position) place) around.old (turn self.new result) around.new }
     {
         let device = around.device;
         let track = self.position.track();
@@ -181,7 +181,7 @@ impl Card {
         place: u8,
     ) -> Answer
         requires { is_good ((D.meaning around.old.drive).sector (under_heads self.old.position) place).id.condition ≡ true }
-        ensures { Carries D.meaning S.meaning (found self.old progress.block progress.done (under_heads self.old.position) place (operation_of (modifier progress.block))) around.old (turn self.new result) around.new }
+        ensures { Carries D.meaning S.meaning D.loan S.loan (found self.old progress.block progress.done (under_heads self.old.position) place (operation_of (modifier progress.block))) around.old (turn self.new result) around.new }
     {
         match progress.block.operation() {
             Some(Operation::ReadData) => self.read_sector(around, progress, place),
@@ -197,7 +197,7 @@ impl Card {
         around: &mut Surroundings<D, S>,
         progress: Progress,
     ) -> Answer
-        ensures { Carries D.meaning S.meaning (searched_sector self.old progress.block progress.done (under_heads self.old.position)) around.old (turn self.new result) around.new }
+        ensures { Carries D.meaning S.meaning D.loan S.loan (searched_sector self.old progress.block progress.done (under_heads self.old.position)) around.old (turn self.new result) around.new }
     {
         match search(&around.drive, self.position.track(), progress.argument()) {
             Ok(place) => self.do_sector(around, progress, place),
@@ -219,7 +219,7 @@ impl Card {
         around: &mut Surroundings<D, S>,
         progress: Progress,
     ) -> Answer
-        ensures { Carries D.meaning S.meaning (sector_step self.old progress.block progress.done) around.old (turn self.new result) around.new }
+        ensures { Carries D.meaning S.meaning D.loan S.loan (sector_step self.old progress.block progress.done) around.old (turn self.new result) around.new }
     {
         let device = around.device;
         let block = progress.block;

@@ -237,7 +237,7 @@ impl Card {
         around: &mut Surroundings<D, S>,
         block: Block,
     ) -> Answer
-        ensures { Carries D.meaning S.meaning (send_status self.old block) around.old (turn self.new result) around.new }
+        ensures { Carries D.meaning S.meaning D.loan S.loan (send_status self.old block) around.old (turn self.new result) around.new }
     {
         let words = self.status_words();
         let count = usize::from(block.count() / 2).min(4);
@@ -257,7 +257,7 @@ impl Card {
 
     // Does one thing, by the card's state and the block in hand.
     pub fn step<D: Drive, S: Storage>(&mut self, around: &mut Surroundings<D, S>) -> Answer
-        ensures { Carries D.meaning S.meaning (step self.old) around.old (turn self.new result) around.new }
+        ensures { Carries D.meaning S.meaning D.loan S.loan (step self.old) around.old (turn self.new result) around.new }
     {
         if self.waiting.is_some() {
             return Answer::Idle;

@@ -68,6 +68,7 @@ pub(crate) fn store_words<S: Storage>(
         (λ _. ends (store_words (map (from_be_bytes w16) words.now) address key residual.old) (world v d (S.meaning storage.old)) ≡ ended (well residual.new) (world v d (S.meaning storage.new)))
         (λ s. ends (store_words (map (from_be_bytes w16) words.now) address key residual.old) (world v d (S.meaning storage.old)) ≡ ended (stopped_at residual.new s.fault s.address) (world v d (S.meaning storage.new))) }
     ensures kept { (v : ℕ) (d : Disk) → spares_storage (sent (store_words (map (from_be_bytes w16) words.now) address key residual.old) (world v d (S.meaning storage.old))) ≡ true → storage.new ≡ storage.old }
+    ensures lent { S.loan storage.new ≡ S.loan storage.old }
 {
     for (i, word) in words.iter().enumerate() {
         let at = address + 2 * i as u32;

@@ -6,7 +6,7 @@ use Rattle.basics.specs.Marks.{without}
 use Rattle.basics.specs.declared.refusal.Refusal.{Refusal}
 use Rattle.basics.specs.declared.refusal.Refusal.TheVariants.{NoSuchPlace}
 use Rattle.basics.proofs.Held.{has_without}
-use Rattle.drive.specs.Disk.{Sector, Disk, same_track, with_data, replaced}
+use Rattle.drive.specs.Disk.{Lawful, Sector, Disk, same_track, with_data, replaced}
 use Rattle.drive.specs.Defects.{same_defect, defect_of, spoils, with_defects, defect_disk}
 use Rattle.drive.specs.declared.defect.Defect.{Defect}
 use Rattle.drive.specs.declared.defect.Field.TheVariants.{Id, Data}
@@ -34,3 +34,7 @@ module _ (new : List ℕ) where
 pub good_from : (b : Bool) (x : Unit {0}) → ◌≡◌ {A = Result (Unit {0}) Refusal} (Ok x) (cond b (Ok tt) (Err NoSuchPlace)) → b ≡ true
 good_from true x e = refl
 good_from false x e = let z : ◌≡◌ {A = ℕ} 0 1 = cc in absurd (omega arith)
+
+-- a lawful drive with marks over it is lawful
+pub lawful_defects : (marks : List Defect) (d : Disk) → Lawful d → Lawful (defect_disk marks d)
+lawful_defects marks d l = search (rules, l)

@@ -54,6 +54,8 @@ fn spoiled_if(marked: bool, condition: Condition) -> Condition
 impl<D: Drive> Drive for DefectLayer<D> {
     ghost meaning = { λ d. defect_disk (held d.marks) (D.Drive.meaning d.below) };
 
+    ghost loan = { λ d. D.Drive.loan d.below };
+
     ghost lawful = { λ d. Prim.search (rules, D.Drive.lawful d.below) };
 
     fn heads(&self) -> u8 {
@@ -85,6 +87,7 @@ impl<D: Drive> Drive for DefectLayer<D> {
         ensures answer { result ≡ accepts (defect_disk (held self.old.marks) (D.Drive.meaning self.old.below)) track place }
         ensures after { defect_disk (held self.new.marks) (D.Drive.meaning self.new.below) ≡ written (defect_disk (held self.old.marks) (D.Drive.meaning self.old.below)) track place bytes.now }
         ensures refused { is_err result ≡ true → self.new ≡ self.old }
+        ensures loan { D.Drive.loan self.new.below ≡ D.Drive.loan self.old.below }
         ensures below { is_err result ≡ false → D.Drive.meaning self.new.below ≡ written (D.Drive.meaning self.old.below) track place bytes.now }
         ensures marks { is_err result ≡ false → held self.new.marks ≡ without same_defect (defect_of Data track place) (held self.old.marks) }
     {

@@ -1,5 +1,6 @@
 // A drive, by its meaning: its heads and, at each place of each track, the ID and the data with their conditions.
-ghost use Rattle.std.specs.Prelude.{◌≡◌, true, is_err, Err, MatchResult};
+ghost use Rattle.std.specs.Prelude.{◌≡◌, true, is_err, Err, Option, Some, None, MatchResult};
+ghost use Rattle.std.specs.Borrow.{GName};
 ghost use Rattle.drive.specs.Disk.{Disk, Lawful, Reads, accepts, written};
 
 use crate::geometry::{SECTOR_BYTES, Track};
@@ -10,6 +11,9 @@ use basics::refusal::Refusal;
 // Data can be read, spoiled or not, and written exactly where the ID is good.
 pub trait Drive {
     ghost meaning: { Self → Disk };
+
+    // of a drive that is lent, which loan it is: no write makes another of it
+    ghost loan: { Self → Option GName } = { λ _. None };
 
     // two or three
     fn heads(&self) -> u8
@@ -27,7 +31,8 @@ pub trait Drive {
     fn write(&mut self, track: Track, place: u8, bytes: &[u8; SECTOR_BYTES]) -> Result<(), Refusal>
         ensures answer { result ≡ accepts (meaning self.old) track place }
         ensures after { meaning self.new ≡ written (meaning self.old) track place bytes.now }
-        ensures refused { is_err result ≡ true → self.new ≡ self.old };
+        ensures refused { is_err result ≡ true → self.new ≡ self.old }
+        ensures loan { loan self.new ≡ loan self.old };
 
     ghost lawful: { (d : Self) → Lawful (meaning d) };
 }

@@ -1,4 +1,6 @@
 // A drive that is lent is a drive: what holds of it holds of the loan.
+ghost use Rattle.std.specs.Prelude.{Some};
+
 use crate::drive::Drive;
 use crate::geometry::{SECTOR_BYTES, Track};
 use crate::sector::{Condition, IdField};
@@ -6,6 +8,8 @@ use basics::refusal::Refusal;
 
 impl<D: Drive> Drive for &mut D {
     ghost meaning = { λ d. D.meaning d.now };
+
+    ghost loan = { λ d. Some d.ghost_name };
 
     ghost lawful = { λ d. D.lawful d.now };
 

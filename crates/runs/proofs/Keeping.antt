@@ -1,4 +1,6 @@
 -- Calls that send nothing to the drive, or to the storage, leave it as it was. Assumes nothing.
+use Rattle.std.specs.Borrow.{GName}
+use Rattle.std.specs.Prelude.{Option}
 use Rattle.std.proofs.Common.{◌≡◌, ℕ, ◌+◌, ◌<◌, ◌≤◌, Bool, true, List, ◌∷◌, ◌++◌, length, get_or, drop, set, sym, refl, ap, ◌∙◌, arith}
 use Rattle.std.proofs.lemmas.List.{drop_more, drop-set-lt}
 use Rattle.answers.specs.declared.answer.Answer.{Answer}
@@ -46,24 +48,28 @@ keeping_more spares front back start first now w w' w'' i c c' before here later
     (kept parts.0 ∙ old.0, ap (λ (l : List Entry). spares (sent (run c' (calls_of l)) w'')) same ∙ parts.1)
 
 -- the first i calls of the entries were carried out: c is the card that they left, and here what it is attached to
-pub record Underway {D S : Type 0} (disk : D → Disk) (memory : S → Memory) (start : Card) (first now : List Entry) (before here : Surroundings D S) (i : ℕ) (c : Card) : Type 0 where
+pub record Underway {D S : Type 0} (disk : D → Disk) (memory : S → Memory) (drive_loan : D → Option GName) (storage_loan : S → Option GName) (start : Card) (first now : List Entry) (before here : Surroundings D S) (i : ℕ) (c : Card) : Type 0 where
   pub running : Running start first now (world_around disk memory before) (world_around disk memory here) i c
   pub device : here.device ≡ before.device
+  pub drive_lent : drive_loan here.drive ≡ drive_loan before.drive
+  pub storage_lent : storage_loan here.storage ≡ storage_loan before.storage
   pub drive : Keeping spares_drive start first now (world_around disk memory before) (world_around disk memory here) i c before.drive here.drive
   pub storage : Keeping spares_storage start first now (world_around disk memory before) (world_around disk memory here) i c before.storage here.storage
 
-module _ {D S : Type 0} (disk : D → Disk) (memory : S → Memory) (start : Card) (first : List Entry) (before : Surroundings D S) where
-  pub underway_none : Underway disk memory start first first before before 0 start
+module _ {D S : Type 0} (disk : D → Disk) (memory : S → Memory) (drive_loan : D → Option GName) (storage_loan : S → Option GName) (start : Card) (first : List Entry) (before : Surroundings D S) where
+  pub underway_none : Underway disk memory drive_loan storage_loan start first first before before 0 start
   underway_none = record {
     running = running_none start first first (world_around disk memory before) refl;
     device = refl;
+    drive_lent = refl;
+    storage_lent = refl;
     drive = λ spared. (refl, spared);
     storage = λ spared. (refl, spared);
   }
 
-  module _ (now : List Entry) (here : Surroundings D S) (i : ℕ) (c : Card) (u : Underway disk memory start first now before here i c) where
-    pub underway_more : (later : Surroundings D S) (c' : Card) (z : Entry) (a : Answer) → i < length now → Carries disk memory (call c (get_or now i z).call) here (turn c' a) later
-        → Underway disk memory start first (set now i record { call = (get_or now i z).call; answer = a }) before later (i + 1) c'
+  module _ (now : List Entry) (here : Surroundings D S) (i : ℕ) (c : Card) (u : Underway disk memory drive_loan storage_loan start first now before here i c) where
+    pub underway_more : (later : Surroundings D S) (c' : Card) (z : Entry) (a : Answer) → i < length now → Carries disk memory drive_loan storage_loan (call c (get_or now i z).call) here (turn c' a) later
+        → Underway disk memory drive_loan storage_loan start first (set now i record { call = (get_or now i z).call; answer = a }) before later (i + 1) c'
     underway_more later c' z a within next =
         let w = world_around disk memory before in
         let w' = world_around disk memory here in
@@ -71,14 +77,18 @@ module _ {D S : Type 0} (disk : D → Disk) (memory : S → Memory) (start : Car
         record {
           running = running_read start first now w w' w'' i c c' u.running z a within next.came;
           device = next.device ∙ u.device;
+          drive_lent = next.drive_lent ∙ u.drive_lent;
+          storage_lent = next.storage_lent ∙ u.storage_lent;
           drive = keeping_more spares_drive drive_front drive_back start first now w w' w'' i c c' before.drive here.drive later.drive u.drive z a within next.came next.drive;
           storage = keeping_more spares_storage storage_front storage_back start first now w w' w'' i c c' before.storage here.storage later.storage u.storage z a within next.came next.storage;
         }
 
-    pub underway_all : length now ≤ i → Carries disk memory (run start (calls_of first)) before record { card = c; answers = answers_of now } here
+    pub underway_all : length now ≤ i → Carries disk memory drive_loan storage_loan (run start (calls_of first)) before record { card = c; answers = answers_of now } here
     underway_all past = record {
       came = running_all start first now (world_around disk memory before) (world_around disk memory here) i c u.running past;
       device = u.device;
+      drive_lent = u.drive_lent;
+      storage_lent = u.storage_lent;
       drive = λ spared. (u.drive spared).0;
       storage = λ spared. (u.storage spared).0;
     }

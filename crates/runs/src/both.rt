@@ -22,8 +22,8 @@ pub fn run_both<D: Drive, S: Storage, E: Drive, T: Storage>(
     other: &mut Surroundings<E, T>,
     others: &mut [Entry],
 ) -> (Card, Card)
-    ensures first { Carries D.meaning S.meaning (run new_card (calls_of entries.old)) around.old (record { card = result.0; answers = answers_of entries.new }) around.new }
-    ensures second { Carries E.meaning T.meaning (run new_card (calls_of others.old)) other.old (record { card = result.1; answers = answers_of others.new }) other.new }
+    ensures first { Carries D.meaning S.meaning D.loan S.loan (run new_card (calls_of entries.old)) around.old (record { card = result.0; answers = answers_of entries.new }) around.new }
+    ensures second { Carries E.meaning T.meaning E.loan T.loan (run new_card (calls_of others.old)) other.old (record { card = result.1; answers = answers_of others.new }) other.new }
     ensures alike { calls_of others.old ≡ calls_of entries.old → Agree (looked_in (world_around D.meaning S.meaning around.old) (calls_of entries.old)) (world_around D.meaning S.meaning around.old) (world_around E.meaning T.meaning other.old) → BothAlike (world_around D.meaning S.meaning around.old) (world_around D.meaning S.meaning around.new) (world_around E.meaning T.meaning other.old) (world_around E.meaning T.meaning other.new) (calls_of entries.old) (answers_of entries.new) (answers_of others.new) }
 {
     let card = run(around, entries);

@@ -35,7 +35,7 @@ impl<D: Drive, S: Storage> RunSoFar<D, S> {
 
     // Carries out one call more.
     pub fn carry_out(&mut self, asked: Call) -> Answer
-        ensures carries { Carries D.meaning S.meaning (call self.old.card asked) self.old.around (turn self.new.card result) self.new.around }
+        ensures carries { Carries D.meaning S.meaning D.loan S.loan (call self.old.card asked) self.old.around (turn self.new.card result) self.new.around }
         ensures goes { GoesOn self.old.card (world_around D.meaning S.meaning self.old.around) asked result self.new.card (world_around D.meaning S.meaning self.new.around) }
     {
         self.card.carry_out(&mut self.around, asked)

@@ -1,9 +1,13 @@
 // A storage that is lent is a storage: what holds of it holds of the loan.
+ghost use Rattle.std.specs.Prelude.{Some};
+
 use crate::storage::Storage;
 use basics::fault::Fault;
 
 impl<S: Storage> Storage for &mut S {
     ghost meaning = { λ s. S.meaning s.now };
+
+    ghost loan = { λ s. Some s.ghost_name };
 
     ghost lawful = { λ s. S.lawful s.now };
 

@@ -28,6 +28,8 @@ impl<S: Storage> Extent<S, u32> for Words {
 impl<S: Storage> Storage for Parity<S> {
     ghost meaning = { λ s. parity_memory (held s.marks) (S.Storage.meaning s.below) };
 
+    ghost loan = { λ s. S.Storage.loan s.below };
+
     ghost lawful = { λ s. Prim.search (rules, S.Storage.lawful s.below) };
 
     fn size(&self) -> u32 {
@@ -47,6 +49,7 @@ impl<S: Storage> Storage for Parity<S> {
         ensures verdict { result ≡ (parity_memory (held self.old.marks) (S.Storage.meaning self.old.below)).stores address (key % 8) }
         ensures after { parity_memory (held self.new.marks) (S.Storage.meaning self.new.below) ≡ stored (parity_memory (held self.old.marks) (S.Storage.meaning self.old.below)) address (key % 8) word }
         ensures refused { is_err result ≡ true → self.new ≡ self.old }
+        ensures loan { S.Storage.loan self.new.below ≡ S.Storage.loan self.old.below }
         ensures marks { self.new.marks ≡ self.old.marks }
     {
         self.below.store(address, key, word)

@@ -1,5 +1,6 @@
 // A storage, by its meaning: its size, the word at each even address, and the verdict of each access.
-ghost use Rattle.std.specs.Prelude.{◌≡◌, ◌%◌, true, is_err};
+ghost use Rattle.std.specs.Prelude.{◌≡◌, ◌%◌, true, is_err, Option, None};
+ghost use Rattle.std.specs.Borrow.{GName};
 ghost use Rattle.storage.specs.Memory.{Memory, Lawful, loaded, stored};
 
 use basics::fault::Fault;
@@ -8,6 +9,9 @@ use basics::fault::Fault;
 // Each call tells the verdict of its access. One that is not allowed leaves the storage as it was.
 pub trait Storage {
     ghost meaning: { Self → Memory };
+
+    // of a storage that is lent, which loan it is: no store makes another of it
+    ghost loan: { Self → Option GName } = { λ _. None };
 
     // in bytes
     fn size(&self) -> u32
@@ -19,7 +23,8 @@ pub trait Storage {
     fn store(&mut self, address: u32, key: u8, word: u16) -> Result<(), Fault>
         ensures verdict { result ≡ (meaning self.old).stores address (key % 8) }
         ensures after { meaning self.new ≡ stored (meaning self.old) address (key % 8) word }
-        ensures refused { is_err result ≡ true → self.new ≡ self.old };
+        ensures refused { is_err result ≡ true → self.new ≡ self.old }
+        ensures loan { loan self.new ≡ loan self.old };
 
     ghost lawful: { (s : Self) → Lawful (meaning s) };
 }

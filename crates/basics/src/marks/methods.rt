@@ -49,6 +49,9 @@ impl<T: Mark, const N: usize> Marks<T, N> {
         ensures after { held self.new ≡ without T.alike x.now (held self.old) }
         ensures unmarked { has T.alike x.now (held self.old) ≡ false → self.new ≡ self.old }
     {
+        if !self.has(x) {
+            return;
+        }
         self.entries.retain(|y| *y != *x);
     }
 }

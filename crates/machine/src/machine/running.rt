@@ -1,5 +1,5 @@
 // A machine is begun, carries out calls, and lends what is to be shown.
-ghost use Rattle.std.specs.Prelude.{◌≡◌, []};
+ghost use Rattle.std.specs.Prelude.{◌≡◌, [], None};
 ghost use Rattle.basics.specs.Table.{held};
 ghost use Rattle.card.specs.Calls.{turn};
 ghost use Rattle.card.specs.Carrying.{Carries};
@@ -63,7 +63,7 @@ impl Machine {
 
     // Carries out one call of the run.
     pub fn carry_out(&mut self, asked: Call) -> Answer
-        ensures carries { Carries layered_disk layered_memory (call self.old.run.card asked) self.old.run.around (turn self.new.run.card result) self.new.run.around }
+        ensures carries { Carries layered_disk layered_memory (λ _. None) (λ _. None) (call self.old.run.card asked) self.old.run.around (turn self.new.run.card result) self.new.run.around }
         ensures goes { GoesOn self.old.run.card (world_of self.old) asked result self.new.run.card (world_of self.new) }
     {
         self.run.carry_out(asked)

@@ -20,6 +20,7 @@ returns-in-Err g c =
           (world v d (g.S.Storage.meaning c.args.storage.now)) v d (g.S.Storage.meaning c.loop-i.storage) c.loop-i.i c.loop-i.residual
           (c.loop-i.invariant.moved v d) word.0 _ word.1 c.in-Err.fault (g.S.Storage.meaning c.store.new.self) c.in-Err.ensures.verdict c.store.ensures.after;
       kept = λ v d spared. c.in-Err.ensures.refused refl ∙ (c.loop-i.invariant.kept v d spared).1;
+      lent = c.store.ensures.loan ∙ c.loop-i.invariant.lent;
     }
 
 pub loop-i-preserved : goal.loop-i-preserved
@@ -36,6 +37,7 @@ loop-i-preserved g c =
           absurd (not_spared (map (from_be_bytes w16) c.args.words.now) c.args.address c.args.key c.args.residual.now v d
           (g.S.Storage.meaning c.loop-i.storage) (g.S.Storage.meaning c.args.storage.now) c.loop-i.i tt before.0 (ap (λ s. g.S.Storage.meaning s) before.1) (omega arith)
           c.in-Ok.ensures.verdict spared);
+      lent = c.store.ensures.loan ∙ c.loop-i.invariant.lent;
     }
 
 pub returns : goal.returns
@@ -45,4 +47,5 @@ returns g c = record {
       (world v d (g.S.Storage.meaning c.args.storage.now)) (world v d (g.S.Storage.meaning c.loop-i.storage)) c.loop-i.i c.loop-i.residual
       (c.loop-i.invariant.moved v d) (simp length-map c.loop-i-test.false);
   kept = λ v d spared. (c.loop-i.invariant.kept v d spared).1;
+  lent = c.loop-i.invariant.lent;
 }

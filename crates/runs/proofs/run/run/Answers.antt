@@ -12,12 +12,12 @@ pub loop-entry-init : goal.loop-entry-init
 loop-entry-init g c =
     let es = c.args.entries.now in
     let here = c.args.around.now in
-    subst (λ (k : Card). Underway g.D.Drive.meaning g.S.Storage.meaning new_card es es here here 0 k) (sym c.new-card.ensures)
-    (underway_none g.D.Drive.meaning g.S.Storage.meaning new_card es here)
+    subst (λ (k : Card). Underway g.D.Drive.meaning g.S.Storage.meaning g.D.Drive.loan g.S.Storage.loan new_card es es here here 0 k) (sym c.new-card.ensures)
+    (underway_none g.D.Drive.meaning g.S.Storage.meaning g.D.Drive.loan g.S.Storage.loan new_card es here)
 
 pub loop-entry-preserved : goal.loop-entry-preserved
 loop-entry-preserved g c =
-    underway_more g.D.Drive.meaning g.S.Storage.meaning new_card c.args.entries.now c.args.around.now c.loop-entry.entries c.loop-entry.around c.loop-entry.entry-index c.loop-entry.card
+    underway_more g.D.Drive.meaning g.S.Storage.meaning g.D.Drive.loan g.S.Storage.loan new_card c.args.entries.now c.args.around.now c.loop-entry.entries c.loop-entry.around c.loop-entry.entry-index c.loop-entry.card
     c.loop-entry.invariant c.carry_out-entry.new.around c.carry_out-entry.new.self _ c.carry_out-entry.result (omega arith) c.carry_out-entry.ensures
 
 pub returns : goal.returns
@@ -25,7 +25,7 @@ returns g c =
     let calls = calls_of c.args.entries.now in
     let w = world_around g.D.Drive.meaning g.S.Storage.meaning c.args.around.now in
     let end = world_around g.D.Drive.meaning g.S.Storage.meaning c.loop-entry.around in
-    let all = underway_all g.D.Drive.meaning g.S.Storage.meaning new_card c.args.entries.now c.args.around.now c.loop-entry.entries c.loop-entry.around c.loop-entry.entry-index c.loop-entry.card
+    let all = underway_all g.D.Drive.meaning g.S.Storage.meaning g.D.Drive.loan g.S.Storage.loan new_card c.args.entries.now c.args.around.now c.loop-entry.entries c.loop-entry.around c.loop-entry.entry-index c.loop-entry.card
     c.loop-entry.invariant (omega arith) in
     record {
       calls = c.loop-entry.invariant.running.calls;

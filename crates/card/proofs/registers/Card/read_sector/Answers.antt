@@ -22,12 +22,12 @@ returns-in-Ok-stored g c =
     let field = (disk.sector c.track-track.result c.args.place).datum in
     let good = ap is_good (sym c.data_condition.ensures) ∙ sym c.if-not-is_good.ensures in
     let long = (g.met.D.Drive.lawful here.drive).long c.track-track.result c.args.place in
-    subst (λ (t : Track). Carries g.D.Drive.meaning g.S.Storage.meaning (read_sector c.args.self.now b n t c.args.place) here (turn c.end_sector.new.self c.end_sector.result) after) c.track-track.ensures
-    (read_carries g.D.Drive.meaning g.S.Storage.meaning here after _ c.args.self.now b n c.track-track.result c.args.place (well stored.new.residual)
+    subst (λ (t : Track). Carries g.D.Drive.meaning g.S.Storage.meaning g.D.Drive.loan g.S.Storage.loan (read_sector c.args.self.now b n t c.args.place) here (turn c.end_sector.new.self c.end_sector.result) after) c.track-track.ensures
+    (read_carries g.D.Drive.meaning g.S.Storage.meaning g.D.Drive.loan g.S.Storage.loan here after _ c.args.self.now b n c.track-track.result c.args.place (well stored.new.residual)
     (map (from_be_bytes w16) (take c.words_left.result c.as_chunks.result.0.now)) c.address.result c.key.result
     good (sector_words b n c.words_left.result c.in-Ok.bytes.now field.bytes c.as_chunks.result.0.now c.words_left.ensures.value long c.in-Ok.ensures.given c.as_chunks.ensures.front)
     c.address.ensures.value c.key.ensures
-    record { came = c.in-Ok-stored.ensures.moved here.device disk; device = refl; drive = λ _. refl; storage = stored.ensures.kept here.device disk }
+    record { came = c.in-Ok-stored.ensures.moved here.device disk; device = refl; drive_lent = refl; storage_lent = stored.ensures.lent; drive = λ _. refl; storage = stored.ensures.kept here.device disk }
     (c.end_sector.ensures disk (g.S.Storage.meaning stored.new.storage)))
 
 pub returns-in-Err : goal.returns-in-Err
@@ -43,11 +43,11 @@ returns-in-Err g c =
     let good = ap is_good (sym c.data_condition.ensures) ∙ sym c.if-not-is_good.ensures in
     let long = (g.met.D.Drive.lawful here.drive).long c.track-track.result c.args.place in
     let card = with_residual stored.new.residual c.args.self.now in
-    subst (λ (t : Track). Carries g.D.Drive.meaning g.S.Storage.meaning (read_sector c.args.self.now b n t c.args.place) here (turn c.fail_sector-in-Err.new.self c.fail_sector-in-Err.result) after) c.track-track.ensures
-    (read_carries g.D.Drive.meaning g.S.Storage.meaning here after _ c.args.self.now b n c.track-track.result c.args.place (stopped_at stored.new.residual s.fault s.address)
+    subst (λ (t : Track). Carries g.D.Drive.meaning g.S.Storage.meaning g.D.Drive.loan g.S.Storage.loan (read_sector c.args.self.now b n t c.args.place) here (turn c.fail_sector-in-Err.new.self c.fail_sector-in-Err.result) after) c.track-track.ensures
+    (read_carries g.D.Drive.meaning g.S.Storage.meaning g.D.Drive.loan g.S.Storage.loan here after _ c.args.self.now b n c.track-track.result c.args.place (stopped_at stored.new.residual s.fault s.address)
     (map (from_be_bytes w16) (take c.words_left.result c.as_chunks.result.0.now)) c.address.result c.key.result
     good (sector_words b n c.words_left.result c.in-Ok.bytes.now field.bytes c.as_chunks.result.0.now c.words_left.ensures.value long c.in-Ok.ensures.given c.as_chunks.ensures.front)
     c.address.ensures.value c.key.ensures
-    record { came = c.in-Err.ensures.moved here.device disk; device = refl; drive = λ _. refl; storage = stored.ensures.kept here.device disk }
+    record { came = c.in-Err.ensures.moved here.device disk; device = refl; drive_lent = refl; storage_lent = stored.ensures.lent; drive = λ _. refl; storage = stored.ensures.kept here.device disk }
     (ap (λ (t : Turn). ended t (world here.device disk (g.S.Storage.meaning stored.new.storage)))
     (sym (c.fail_sector-in-Err.ensures ∙ ap (failed_turn here.device false (write_ends b (sector_now b n) card) b.address) c.from.ensures))))

@@ -30,12 +30,14 @@ returns-in-Ok g c =
     let bytes = c.sector_bytes-bytes.ensures ∙ filled_is words count (c.fetch_words-fetched.auto.words ∙ all) c.words_left.ensures.bound in
     let wrote = ap (replaced disk c.track-track.result c.args.place) (sym bytes) ∙ sym (c.write.ensures.after ∙ cond-true _ _ disk good) in
     let after = record here { drive = c.write.new.self } in
-    subst (λ (t : Track). Carries g.D.Drive.meaning g.S.Storage.meaning (write_data_sector self b n t c.args.place) here (turn c.end_sector.new.self c.end_sector.result) after) c.track-track.ensures
-    (write_carries g.D.Drive.meaning g.S.Storage.meaning here after _ self b n c.track-track.result c.args.place (length (take count (replicate 128 0))) c.address.result c.key.result f
+    subst (λ (t : Track). Carries g.D.Drive.meaning g.S.Storage.meaning g.D.Drive.loan g.S.Storage.loan (write_data_sector self b n t c.args.place) here (turn c.end_sector.new.self c.end_sector.result) after) c.track-track.ensures
+    (write_carries g.D.Drive.meaning g.S.Storage.meaning g.D.Drive.loan g.S.Storage.loan here after _ self b n c.track-track.result c.args.place (length (take count (replicate 128 0))) c.address.result c.key.result f
     (all ∙ c.words_left.ensures.value) c.address.ensures.value c.key.ensures (c.in-Ok.ensures here.device disk)
     record {
       came = ap (λ (d : Disk). ends (sector_done (with_residual r self) b n) (world here.device d memory)) wrote ∙ c.end_sector.ensures (g.D.Drive.meaning c.write.new.self) memory;
       device = refl;
+      drive_lent = c.write.ensures.loan;
+      storage_lent = refl;
       drive = λ spared. absurd (false≢true spared);
       storage = λ _. refl;
     })
@@ -54,8 +56,8 @@ returns-in-Err g c =
     let self = c.args.self.now in
     let e = ends (fetch_words (length (take c.words_left.result (replicate 128 0))) c.address.result c.key.result self.residual) w in
     let f : Fetched = record { words = e.result.words; moved = stopped_at r s.fault s.address } in
-    subst (λ (t : Track). Carries g.D.Drive.meaning g.S.Storage.meaning (write_data_sector self b n t c.args.place) here (turn c.fail_sector.new.self c.fail_sector.result) here) c.track-track.ensures
-    (write_carries g.D.Drive.meaning g.S.Storage.meaning here here _ self b n c.track-track.result c.args.place (length (take c.words_left.result (replicate 128 0))) c.address.result c.key.result f
+    subst (λ (t : Track). Carries g.D.Drive.meaning g.S.Storage.meaning g.D.Drive.loan g.S.Storage.loan (write_data_sector self b n t c.args.place) here (turn c.fail_sector.new.self c.fail_sector.result) here) c.track-track.ensures
+    (write_carries g.D.Drive.meaning g.S.Storage.meaning g.D.Drive.loan g.S.Storage.loan here here _ self b n c.track-track.result c.args.place (length (take c.words_left.result (replicate 128 0))) c.address.result c.key.result f
     (length-take-le c.words_left.result (replicate 128 0) c.words_left.ensures.bound ∙ c.words_left.ensures.value) c.address.ensures.value c.key.ensures (stopped_is e (stopped_at r s.fault s.address) w (c.in-Err.ensures here.device (g.D.Drive.meaning here.drive)))
-    (carries_looks g.D.Drive.meaning g.S.Storage.meaning _ here _ (ap (λ (t : Turn). ended t w)
+    (carries_looks g.D.Drive.meaning g.S.Storage.meaning g.D.Drive.loan g.S.Storage.loan _ here _ (ap (λ (t : Turn). ended t w)
     (sym (c.fail_sector.ensures ∙ ap (failed_turn here.device false (write_ends b (sector_now b n) (with_residual r self)) b.address) c.from.ensures)))))

@@ -1,8 +1,35 @@
 -- Laws of the marks that a table holds. Assumes nothing.
-use Rattle.std.proofs.Common.{◌≡◌, Bool, false, not, ◌&&◌, List, [], ◌∷◌, Decides, refl, ap, ◌∙◌}
-use Rattle.std.proofs.lemmas.Bool.{cond-true, or_parts, not_from_false}
+use Rattle.std.proofs.Common.{◌≡◌, ℕ, ◌+◌, ◌<◌, ◌≤◌, Bool, true, false, not, ◌&&◌, ◌||◌, ltb, List, [], ◌∷◌, ◌++◌, length, get_or, drop, set, Ok, Decides, sym, refl, ap, ◌∙◌}
+use Rattle.std.proofs.lemmas.List.Filters.{FiltersInPlace, FiltersInPlace-more_set}
+use Rattle.std.proofs.lemmas.List.{at_drop_more, at_drop_all, get_or_default}
+use Rattle.std.proofs.lemmas.Bool.{cond-true, cond-false, lt-ltb, or_parts, not_from_false}
 use Rattle.std.proofs.lemmas.Map.Views.{any-filter_same}
-use Rattle.basics.specs.Marks.{has, without}
+use Rattle.basics.specs.Marks.{has, without, entered, entering}
+
+module _ {T : Type 0} (alike : T → T → Bool) (x : T) (ys : List T) (i : ℕ) where
+  -- one mark further along the list
+  pub has_more : (y : T) (b : Bool) → i < length ys → y ≡ get_or ys i y → b ≡ alike y x → has alike x (drop i ys) ≡ (b || has alike x (drop (i + 1) ys))
+  has_more y b within read test =
+      at_drop_more (has alike x) ys i y within
+      ∙ ap (λ (z : T). alike z x || has alike x (drop (i + 1) ys)) (sym read)
+      ∙ ap (λ (t : Bool). t || has alike x (drop (i + 1) ys)) (sym test)
+
+  -- at the end of the list
+  pub has_all : length ys ≤ i → has alike x (drop i ys) ≡ false
+  has_all past = at_drop_all (has alike x) ys i past
+
+module _ {T : Type 0} (alike : T → T → Bool) (n : ℕ) (x : T) (ys : List T) (new : false ≡ has alike x ys) (free : length ys < n) where
+  -- a new mark where an entry is free
+  pub entering_new : Ok tt ≡ entering alike n x ys
+  entering_new = sym (cond-false (has alike x ys) _ _ (sym new) ∙ cond-true (ltb (length ys) n) _ _ (lt-ltb (length ys) n free))
+
+  pub entered_new : ys ++ x ∷ [] ≡ entered alike n x ys
+  entered_new = sym (cond-false (has alike x ys) _ _ (sym new) ∙ cond-true (ltb (length ys) n) _ _ (lt-ltb (length ys) n free))
+
+-- a mark that stays is moved down, read at any default
+pub keeping_moved : {T : Type 0} (p : T → Bool) (xs ys : List T) (k i : ℕ) (d : T) → FiltersInPlace p xs ys k i → i < length ys → p (get_or ys i d) ≡ true → FiltersInPlace p xs (set ys k (get_or ys i d)) (k + 1) (i + 1)
+keeping_moved p xs ys k i d kept within pass =
+    FiltersInPlace-more_set {x = get_or ys i d} kept within pass (get_or_default ys i d (get_or ys i d) within)
 
 module _ {T : Type 0} (alike : T → T → Bool) where
   -- taking out a mark that is not there

@@ -2,6 +2,7 @@
 ghost use Rattle.std.specs.Prelude.{◌≡◌, Bool, true, false, [], is_err, if◌then◌else◌, Ok};
 ghost use Rattle.basics.specs.Marks.{has, without, entered, entering, where_there};
 ghost use Rattle.basics.specs.Table.{held};
+ghost use Rattle.std.specs.Borrow.{sem};
 
 use crate::mark::Mark;
 use crate::marks::Marks;
@@ -16,23 +17,18 @@ pub trait Extent<B, M> {
         ensures { result ≡ reaches below.now mark.now };
 }
 
-// What lies below, with at most N marks.
+// An extent whose layer can be taken off, so that its marks are put over something else.
+pub trait ComesOff {}
+
+// What lies below, with at most N marks. Only who can make an extent can write what lies below, or the marks, by it.
 #[derive(Drop)]
 pub struct Layer<B, M, E, const N: usize> {
-    pub below: B,
-    pub marks: Marks<M, N>,
+    below: B,
+    marks: Marks<M, N>,
     extent: PhantomData<E>,
 }
 
-impl<B, M: Mark, E: Extent<B, M>, const N: usize> Layer<B, M, E, N> {
-    // With nothing marked.
-    pub fn new(below: B) -> Self
-        ensures below { result.below ≡ below }
-        ensures marks { held result.marks ≡ [] }
-    {
-        Layer::over(below, Marks::new())
-    }
-
+impl<B, M: Mark + Default, E: Extent<B, M> + ComesOff, const N: usize> Layer<B, M, E, N> {
     // Under marks that were kept.
     pub fn over(below: B, marks: Marks<M, N>) -> Self
         ensures below { result.below ≡ below }
@@ -50,6 +46,38 @@ impl<B, M: Mark, E: Extent<B, M>, const N: usize> Layer<B, M, E, N> {
         ensures { result ≡ (self.below, self.marks) }
     {
         (self.below, self.marks)
+    }
+}
+
+impl<B, M: Mark + Default, E: Extent<B, M>, const N: usize> Layer<B, M, E, N> {
+    ghost use Rattle.basics.specs.Lends.{lends_below, lends_marks};
+
+    // With nothing marked.
+    pub fn new(below: B) -> Self
+        ensures below { result.below ≡ below }
+        ensures marks { held result.marks ≡ [] }
+    {
+        Layer {
+            below,
+            marks: Marks::new(M::default()),
+            extent: PhantomData,
+        }
+    }
+
+    // Lends what lies below for writing.
+    pub fn below_mut(&mut self, _extent: &E) -> &mut B
+        ensures* writes_back { sem 𝓛 (lends_below B.row M.row E.row N.row self.entry result) }
+        ensures value { result.now ≡ self.old.below }
+    {
+        &mut self.below
+    }
+
+    // Lends the marks for writing.
+    pub fn marks_mut(&mut self, _extent: &E) -> &mut Marks<M, N>
+        ensures* writes_back { sem 𝓛 (lends_marks B.row M.row E.row N.row self.entry result) }
+        ensures value { result.now ≡ self.old.marks }
+    {
+        &mut self.marks
     }
 
     // Lends what lies below, which has no marks.

@@ -1,6 +1,6 @@
 // The device control block: eight words fetched in order, and the operation that they ask for.
 ghost use Rattle.std.specs.Prelude.{◌≡◌};
-ghost use Rattle.std.specs.Result.{result_ok};
+ghost use Rattle.std.specs.Option.{ok_or};
 ghost use Rattle.card.specs.Blocks.{chaining, input, key, modifier, downward, difference, flag, cylinder, head, sector, chain, count, data_address, operation_of, input_fits, fits, lawful, lawful_status};
 
 // What a control block of Start asks for.
@@ -28,7 +28,7 @@ pub struct UnknownModifier(pub u8);
 impl TryFrom<u8> for Operation {
     type Error = UnknownModifier;
 
-    ghost try_from_gives = { λ modifier r. result_ok r ≡ operation_of modifier };
+    ghost try_from_gives = { λ modifier r. r ≡ ok_or (operation_of modifier) (record { 0 = modifier }) };
 
     fn try_from(modifier: u8) -> Result<Operation, UnknownModifier> {
         match modifier {

@@ -8,3 +8,4 @@ pub mod Parts
 pub mod Passes
 pub mod Sound
 pub mod Walks
+pub mod ChainedReads

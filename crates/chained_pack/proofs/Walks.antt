@@ -115,6 +115,11 @@ module _ (next : ℕ → ℕ) where
     pub at_zero : (f i : ℕ) → i ≡ 0 → F (chain_from next f i) ≡ F []
     at_zero f i none = ap (λ (j : ℕ). F (chain_from next f j)) none ∙ ap F (from_zero f)
 
+    pub at_none : (n s i : ℕ) → n ≤ s → F (chain_from next (n - s) i) ≡ F []
+    unfolding chain_from
+    at_none n s i past =
+        let left : n - s ≡ 0 = omega arith in ap (λ (f : ℕ). F (chain_from next f i)) left
+
   pub length_from : (f i : ℕ) → length (chain_from next f i) ≤ f
   unfolding chain_from
   length_from zero i = omega arith

@@ -1,41 +1,48 @@
 // Memory for storages and packs, and the machine that a script begins with.
 use crate::undone::NotDone;
 use anyhow::anyhow;
-use basics::refusal::Refusal;
 use machine::any_pack::AnyPack;
 use machine::any_storage::AnyStorage;
 use machine::fresh_pack::fresh_pack;
 use machine::machine::Machine;
 use pack::plain_pack::open::{THREE_HEADS_BYTES, TWO_HEADS_BYTES};
 use script::line::Keys;
-use std::alloc::Global;
+use std::alloc::{AllocError, Global};
 use storage::keyed::BLOCK_BYTES;
 use storage::plain::Plain;
 
 // the largest storage
 const MOST_BYTES: usize = 65_536;
 
-// Bytes for a storage of this size, which may be too large.
+// kept: where nothing can have so many bytes, keys or heads, some are made that the machine refuses, as is proved of it
+// Bytes for a storage of this size; one that is too large gets one byte too many, and the machine refuses it by that.
 pub fn storage_bytes(heap: Global, size: usize) -> Result<Vec<u8>, NotDone> {
-    if size > MOST_BYTES {
-        return Err(Refusal::Length.into());
+    Ok(vec![in heap; 0u8; size.min(MOST_BYTES + 1)]?)
+}
+
+// The keys of a line; where there are more than 32, one more, and the machine makes no storage with those.
+fn keys(heap: Global, given: Keys) -> Result<Vec<u8>, AllocError> {
+    let mut keys = given.keys.to_vec(heap)?;
+    if given.count > keys.len() {
+        keys.push(0)?;
     }
-    Ok(vec![in heap; 0u8; size]?)
+    keys.truncate(given.count);
+    Ok(keys)
 }
 
-// Bytes for the blocks of keyed storage, with the keys of a line, which may be too many.
+// Bytes for the blocks of keyed storage, with their keys.
 pub fn keyed_bytes(heap: Global, given: Keys) -> Result<(Vec<u8>, Vec<u8>), NotDone> {
-    let keys = given.keys.get(..given.count).ok_or(Refusal::Length)?;
+    let keys = keys(heap, given)?;
     let bytes = storage_bytes(heap, keys.len().saturating_mul(BLOCK_BYTES))?;
-    Ok((bytes, keys.to_vec(heap)?))
+    Ok((bytes, keys))
 }
 
-// Bytes for a plain pack of so many heads, of which none but two or three make one.
+// Bytes for a plain pack of so many heads; no bytes are no pack, and the machine refuses them.
 pub fn pack_bytes(heap: Global, heads: u32) -> Result<Vec<u8>, NotDone> {
     let size = match heads {
         2 => TWO_HEADS_BYTES,
         3 => THREE_HEADS_BYTES,
-        _ => return Err(Refusal::Length.into()),
+        _ => 0,
     };
     Ok(vec![in heap; 0u8; size]?)
 }

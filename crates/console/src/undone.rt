@@ -15,12 +15,6 @@ pub enum NotDone {
     Unreadable(anyhow::Error),
 }
 
-impl From<Refusal> for NotDone {
-    fn from(refusal: Refusal) -> Self {
-        NotDone::Refused(refusal)
-    }
-}
-
 impl From<AllocError> for NotDone {
     fn from(error: AllocError) -> Self {
         NotDone::Unreadable(error.into())

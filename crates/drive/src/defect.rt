@@ -23,7 +23,13 @@ pub struct Defect {
 impl Mark for Defect {
     ghost alike = { same_defect };
 
-    ghost same = { Prim.search rules };
-
     ghost decides = { Prim.search rules };
+
+    // kept: field by field, the field first, in which most differ; by `==` a search takes a third longer where 32 are set
+    fn is(&self, other: &Defect) -> bool {
+        self.field == other.field
+            && self.track.cylinder == other.track.cylinder
+            && self.track.head == other.track.head
+            && self.place == other.place
+    }
 }

@@ -11,15 +11,18 @@ use crate::defect::{Defect, Field};
 use crate::drive::Drive;
 use crate::geometry::{SECTOR_BYTES, Track};
 use crate::sector::{Condition, IdField};
-use basics::layer::{Extent, Layer};
+use basics::layer::{ComesOff, Extent, Layer};
 use basics::refusal::Refusal;
 
 pub const DEFECT_MARKS: usize = 32;
 
-// The places of a drive, each with its two fields.
-pub struct Places;
+// The places of a drive, each with its two fields. None is made but here.
+pub struct Places(());
 
 pub type DefectLayer<D> = Layer<D, Defect, Places, DEFECT_MARKS>;
+
+// A track is made fresh without the layer, which is then put over the pack again.
+impl ComesOff for Places {}
 
 impl<D: Drive> Extent<D, Defect> for Places {
     ghost reaches = { λ d x. on_drive (D.Drive.meaning d).heads x.track x.place };
@@ -59,11 +62,11 @@ impl<D: Drive> Drive for DefectLayer<D> {
     ghost lawful = { λ d. Prim.search (rules, D.Drive.lawful d.below) };
 
     fn heads(&self) -> u8 {
-        self.below.heads()
+        self.below().heads()
     }
 
     fn id(&self, track: Track, place: u8) -> IdField {
-        let field = self.below.id(track, place);
+        let field = self.below().id(track, place);
         IdField {
             condition: spoiled_if(spoils(self, Field::Id, track, place), field.condition),
             ..field
@@ -71,7 +74,7 @@ impl<D: Drive> Drive for DefectLayer<D> {
     }
 
     fn data_condition(&self, track: Track, place: u8) -> Condition {
-        let below = self.below.data_condition(track, place);
+        let below = self.below().data_condition(track, place);
         spoiled_if(spoils(self, Field::Data, track, place), below)
     }
 
@@ -79,7 +82,7 @@ impl<D: Drive> Drive for DefectLayer<D> {
         if spoils(self, Field::Id, track, place) {
             return Err(Refusal::NoSuchPlace);
         }
-        self.below.read(track, place)
+        self.below().read(track, place)
     }
 
     // Besides what every drive owes: an accepted write goes to the drive below, and lifts the data mark of its place alone.
@@ -94,8 +97,8 @@ impl<D: Drive> Drive for DefectLayer<D> {
         if spoils(self, Field::Id, track, place) {
             return Err(Refusal::NoSuchPlace);
         }
-        self.below.write(track, place, bytes)?;
-        self.marks.lift(&Defect {
+        self.below_mut(&Places(())).write(track, place, bytes)?;
+        self.marks_mut(&Places(())).lift(&Defect {
             field: Field::Data,
             track,
             place,

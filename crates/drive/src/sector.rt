@@ -1,6 +1,6 @@
 // The ID of a sector, and the condition of what is recorded.
 ghost use Rattle.std.specs.Prelude.{◌≡◌, Some};
-ghost use Rattle.drive.specs.Disk.{is_good, condition_word, condition_of, condition_byte};
+ghost use Rattle.drive.specs.Disk.{is_good, same_id, condition_word, condition_of, condition_byte};
 
 use std::fmt;
 
@@ -61,6 +61,15 @@ pub struct SectorId {
     pub cylinder: u16,
     pub head: u8,
     pub sector: u8,
+}
+
+impl SectorId {
+    // `==`, as contracts name it
+    pub fn same_as(self, other: SectorId) -> bool
+        ensures { result ≡ same_id self other }
+    {
+        self == other
+    }
 }
 
 // The ID recorded at a place, with its condition.

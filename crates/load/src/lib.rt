@@ -2,4 +2,6 @@
 #![tactic(auto)]
 
 pub mod load;
+#[cfg(test)]
+mod load_tests;
 mod part;

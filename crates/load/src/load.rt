@@ -1,4 +1,6 @@
 // The load: what is asked of the card, and what came of it.
+ghost use Rattle.std.specs.Prelude.{◌≡◌, IfOk, replicate};
+
 use crate::part::{Calls, Part};
 use answers::answer::Answer;
 use anyhow::anyhow;
@@ -93,8 +95,14 @@ fn fresh_pack(heap: Global) -> anyhow::Result<PlainPack> {
 }
 
 // Plain storage of 4,096 bytes, all words zero.
-pub fn empty_storage(heap: Global) -> anyhow::Result<Plain> {
-    Plain::new(vec![in heap; 0u8; 4096]?).map_err(|_| anyhow!("the storage was refused"))
+pub fn empty_storage(heap: Global) -> anyhow::Result<Plain>
+    ensures { IfOk result (λ s. s.bytes.items ≡ replicate 4096 0) }
+{
+    // kept: by `map_err` the clause is not found
+    match Plain::new(vec![in heap; 0u8; 4096]?) {
+        Ok(storage) => Ok(storage),
+        Err(_) => Err(anyhow!("the storage was refused")),
+    }
 }
 
 // the last interrupt's status byte, the high byte of its ID word

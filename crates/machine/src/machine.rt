@@ -4,6 +4,7 @@ ghost use Rattle.machine.specs.Makes.{run_world};
 
 use crate::any_pack::AnyPack;
 use crate::any_storage::AnyStorage;
+pub use crate::not_fresh::NotFresh;
 use drive::defect_layer::DefectLayer;
 use runs::so_far::RunSoFar;
 use storage::parity::Parity;

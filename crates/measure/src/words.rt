@@ -21,12 +21,17 @@ fn pattern(address: u32, round: u16) -> u16 {
 
 // Stores every word, then loads every word, and answers how many came back as stored.
 fn round_trip<S: Storage>(storage: &mut S, round: u16) -> usize {
-    for address in (0..storage.size()).step_by(2) {
+    let words = storage.size() / 2;
+    for address in (0..words).map(|word| word * 2) {
         let _ = storage.store(address, KEY, pattern(address, round));
     }
-    (0..storage.size())
-        .step_by(2)
-        .filter(|&address| storage.load(address, KEY) == Ok(pattern(address, round)))
+    (0..words)
+        .map(|word| word * 2)
+        .filter(|&address| {
+            storage
+                .load(address, KEY)
+                .is_ok_and(|word| word == pattern(address, round))
+        })
         .count()
 }
 

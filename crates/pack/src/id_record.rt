@@ -1,5 +1,6 @@
 // How packs record an ID.
 ghost use Rattle.std.specs.Prelude.{◌≡◌, ◌<◌, length, drop, MatchOption};
+ghost use Rattle.drive.specs.Disk.{condition_of};
 ghost use Rattle.pack.specs.Layout.{id_of};
 
 use drive::sector::{Condition, IdField, SectorId};
@@ -30,4 +31,11 @@ pub fn take_id(bytes: &[u8]) -> Option<(SectorId, &[u8])>
         sector: *sector,
     };
     Some((id, rest))
+}
+
+// what a condition byte says
+pub fn condition(byte: u8) -> Condition
+    ensures { result ≡ condition_of byte }
+{
+    Condition::from(byte)
 }

@@ -3,7 +3,7 @@ ghost use Rattle.std.specs.Prelude.{◌≡◌, Ok, Err, length, MatchBool, Match
 ghost use Rattle.basics.specs.declared.refusal.Refusal.TheVariants.{NoSuchPlace};
 ghost use Rattle.pack.specs.Layout.{IsWithin, IsRecorded, sector_in, data_put_in};
 
-use crate::id_record::take_id;
+use crate::id_record::{condition, take_id};
 use basics::refusal::Refusal;
 use drive::geometry::SECTOR_BYTES;
 use drive::sector::{Condition, IdField};
@@ -48,9 +48,9 @@ impl SectorAt {
         Some(Recorded {
             id: IdField {
                 id,
-                condition: Condition::from(pack[self.front]),
+                condition: condition(pack[self.front]),
             },
-            data_condition: Condition::from(pack[self.front + 1]),
+            data_condition: condition(pack[self.front + 1]),
             bytes: &pack[self.body..self.body + SECTOR_BYTES],
         })
     }

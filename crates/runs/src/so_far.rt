@@ -38,7 +38,9 @@ impl<D: Drive, S: Storage> RunSoFar<D, S> {
         ensures carries { Carries D.meaning S.meaning D.loan S.loan (call self.old.card asked) self.old.around (turn self.new.card result) self.new.around }
         ensures goes { GoesOn self.old.card (world_around D.meaning S.meaning self.old.around) asked result self.new.card (world_around D.meaning S.meaning self.new.around) }
     {
-        self.card.carry_out(&mut self.around, asked)
+        // named, so that an edit can change the device around it and put it back
+        let answer = self.card.carry_out(&mut self.around, asked);
+        answer
     }
 
     // That the law holds of the calls so far; the answer is the card.

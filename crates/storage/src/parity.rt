@@ -12,8 +12,8 @@ use basics::layer::{Extent, Layer};
 
 pub const PARITY_MARKS: usize = 16;
 
-// The words of a storage, by their addresses.
-pub struct Words;
+// The words of a storage, by their addresses. None is made but here.
+pub struct Words(());
 
 pub type Parity<S> = Layer<S, u32, Words, PARITY_MARKS>;
 
@@ -33,11 +33,11 @@ impl<S: Storage> Storage for Parity<S> {
     ghost lawful = { λ s. Prim.search (rules, S.Storage.lawful s.below) };
 
     fn size(&self) -> u32 {
-        self.below.size()
+        self.below().size()
     }
 
     fn load(&self, address: u32, key: u8) -> Result<u16, Fault> {
-        let word = self.below.load(address, key)?;
+        let word = self.below().load(address, key)?;
         if self.is_marked(address) {
             return Err(Fault::StorageDataCheck);
         }
@@ -52,6 +52,6 @@ impl<S: Storage> Storage for Parity<S> {
         ensures loan { S.Storage.loan self.new.below ≡ S.Storage.loan self.old.below }
         ensures marks { self.new.marks ≡ self.old.marks }
     {
-        self.below.store(address, key, word)
+        self.below_mut(&Words(())).store(address, key, word)
     }
 }

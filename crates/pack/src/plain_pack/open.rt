@@ -1,7 +1,6 @@
 // A plain pack is opened from bytes, and gives them back.
-ghost use Rattle.std.specs.Prelude.{◌≡◌, ◌/◌, ◌≤◌, length, Some, None, vec_len, MatchResult};
-ghost use Rattle.pack.specs.Layout.{every_below};
-ghost use Rattle.pack.specs.Plain.{heads_of, zero_clear, conditions_clear, plain_fault};
+ghost use Rattle.std.specs.Prelude.{◌≡◌, ◌+◌, ◌*◌, ◌≤◌, length, Some, None, vec_len, MatchResult};
+ghost use Rattle.pack.specs.Plain.{heads_of, zero_clear, conditions_clear, places_fault, plain_fault};
 
 use crate::plain_pack::{DATA_AT, PLACE_BYTES, PlainPack};
 use basics::handed_back::HandedBack;
@@ -11,6 +10,9 @@ use basics::refusal::Refusal;
 pub const TWO_HEADS_BYTES: usize = 9_599_040;
 
 pub const THREE_HEADS_BYTES: usize = 14_398_560;
+
+// the places of one head
+const PLACES_PER_HEAD: usize = 18_180;
 
 // the heads of a pack of this length
 fn heads_of(len: usize) -> Option<u8>
@@ -23,43 +25,48 @@ fn heads_of(len: usize) -> Option<u8>
     }
 }
 
-// whether the byte between ID and data of each place is zero
-fn all_zeros_clear(bytes: &[u8]) -> bool
-    ensures { result ≡ every_below (zero_clear bytes.now) (length bytes.now / 264) }
+// whether the byte between ID and data of a place is zero
+fn zero_clear(bytes: &[u8], place: usize) -> bool
+    requires { place * 264 + 264 ≤ length bytes.now }
+    ensures { result ≡ zero_clear bytes.now place }
 {
-    bytes
-        .chunks_exact(PLACE_BYTES)
-        .all(|place| place[DATA_AT - 1] == 0)
+    bytes[place * PLACE_BYTES + DATA_AT - 1] == 0
 }
 
 // whether both conditions of a place are 0 or 1
-fn conditions_clear(place: &[u8]) -> bool
-    requires { 264 ≤ length place.now }
-    ensures { result ≡ conditions_clear place.now 0 }
+fn conditions_clear(bytes: &[u8], place: usize) -> bool
+    requires { place * 264 + 264 ≤ length bytes.now }
+    ensures { result ≡ conditions_clear bytes.now place }
 {
-    matches!(place, [0 | 1, 0 | 1, ..])
+    bytes[place * PLACE_BYTES] <= 1 && bytes[place * PLACE_BYTES + 1] <= 1
 }
 
-// whether the conditions of each place are
-fn all_conditions_clear(bytes: &[u8]) -> bool
-    ensures { result ≡ every_below (conditions_clear bytes.now) (length bytes.now / 264) }
+// Whether the first places are a plain pack's, or what is wrong with them: a zero byte anywhere comes before a condition.
+// kept: a wrong condition is remembered to the end, so that a pack is gone through once, where two walks with `all` go twice
+fn check_places(bytes: &[u8], places: usize) -> Result<(), Refusal>
+    requires { places * 264 ≤ length bytes.now }
+    ensures { MatchResult result (λ _. places_fault bytes.now places ≡ None) (λ e. places_fault bytes.now places ≡ Some e) }
 {
-    bytes
-        .chunks_exact(PLACE_BYTES)
-        .all(|place| conditions_clear(place))
+    let mut conditions = true;
+    for place in 0..places {
+        if !zero_clear(bytes, place) {
+            return Err(Refusal::Header);
+        }
+        conditions &= conditions_clear(bytes, place);
+    }
+    if conditions {
+        Ok(())
+    } else {
+        Err(Refusal::Record)
+    }
 }
 
-// The heads of a plain pack of these bytes, or what is wrong with them: a zero byte anywhere comes before a condition.
+// The heads of a plain pack of these bytes, or what is wrong with them.
 fn check(bytes: &[u8]) -> Result<u8, Refusal>
     ensures { MatchResult result (λ heads. (plain_fault bytes.now ≡ None) × (heads_of (length bytes.now) ≡ Some heads)) (λ e. plain_fault bytes.now ≡ Some e) }
 {
     let heads = heads_of(bytes.len()).ok_or(Refusal::Length)?;
-    if !all_zeros_clear(bytes) {
-        return Err(Refusal::Header);
-    }
-    if !all_conditions_clear(bytes) {
-        return Err(Refusal::Record);
-    }
+    check_places(bytes, usize::from(heads) * PLACES_PER_HEAD)?;
     Ok(heads)
 }
 

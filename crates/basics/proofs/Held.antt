@@ -1,22 +1,10 @@
 -- Laws of the marks that a table holds. Assumes nothing.
-use Rattle.std.proofs.Common.{◌≡◌, ℕ, ◌+◌, ◌<◌, ◌≤◌, Bool, true, false, not, ◌&&◌, ◌||◌, ltb, List, [], ◌∷◌, ◌++◌, length, get_or, drop, set, Ok, Decides, sym, refl, ap, ◌∙◌}
+use Rattle.std.proofs.Common.{◌≡◌, ℕ, ◌+◌, ◌<◌, Bool, true, false, not, ◌&&◌, ltb, List, [], ◌∷◌, ◌++◌, length, get_or, set, Ok, Decides, sym, refl, ap, ◌∙◌}
 use Rattle.std.proofs.lemmas.List.Filters.{FiltersInPlace, FiltersInPlace-more_set}
-use Rattle.std.proofs.lemmas.List.{at_drop_more, at_drop_all, get_or_default}
+use Rattle.std.proofs.lemmas.List.{get_or_default}
 use Rattle.std.proofs.lemmas.Bool.{cond-true, cond-false, lt-ltb, or_parts, not_from_false}
 use Rattle.std.proofs.lemmas.Map.Views.{any-filter_same}
 use Rattle.basics.specs.Marks.{has, without, entered, entering}
-
-module _ {T : Type 0} (alike : T → T → Bool) (x : T) (ys : List T) (i : ℕ) where
-  -- one mark further along the list
-  pub has_more : (y : T) (b : Bool) → i < length ys → y ≡ get_or ys i y → b ≡ alike y x → has alike x (drop i ys) ≡ (b || has alike x (drop (i + 1) ys))
-  has_more y b within read test =
-      at_drop_more (has alike x) ys i y within
-      ∙ ap (λ (z : T). alike z x || has alike x (drop (i + 1) ys)) (sym read)
-      ∙ ap (λ (t : Bool). t || has alike x (drop (i + 1) ys)) (sym test)
-
-  -- at the end of the list
-  pub has_all : length ys ≤ i → has alike x (drop i ys) ≡ false
-  has_all past = at_drop_all (has alike x) ys i past
 
 module _ {T : Type 0} (alike : T → T → Bool) (n : ℕ) (x : T) (ys : List T) (new : false ≡ has alike x ys) (free : length ys < n) where
   -- a new mark where an entry is free

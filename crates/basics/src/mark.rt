@@ -1,4 +1,4 @@
-// What can be marked, and whether a list of marks has one.
+// What can be marked, and whether it is among marks.
 ghost use Rattle.std.specs.Prelude.{◌≡◌, Bool, Decides, nat_eq};
 ghost use Rattle.basics.specs.Marks.{has};
 ghost use Rattle.std.proofs.Common.{rules};
@@ -10,20 +10,14 @@ pub trait Mark: Copy {
     fn is(&self, other: &Self) -> bool
         ensures { result ≡ alike self.now other.now };
 
-    ghost decides: { (x y : Self) → Decides (alike x y) (x ≡ y) };
-}
-
-// whether one of the marks is x
-// kept: a `for` that looks for one; by `contains` a Write Data takes a tenth more instructions
-pub(crate) fn found<T: Mark>(marks: &[T], x: &T) -> bool
-    ensures { result ≡ has T.Mark.alike x.now marks.now }
-{
-    for y in marks {
-        if y.is(x) {
-            return true;
-        }
+    // whether one of the marks is this one
+    fn is_among(&self, marks: &[Self]) -> bool
+        ensures { result ≡ has alike self.now marks.now }
+    {
+        marks.iter().any(|mark| mark.is(self))
     }
-    false
+
+    ghost decides: { (x y : Self) → Decides (alike x y) (x ≡ y) };
 }
 
 // A number marks itself.
@@ -34,5 +28,14 @@ impl Mark for u32 {
 
     fn is(&self, other: &u32) -> bool {
         *self == *other
+    }
+
+    // All are looked at, without a branch on each, so that several are compared at a time.
+    fn is_among(&self, marks: &[u32]) -> bool {
+        let mut found = false;
+        for mark in marks {
+            found |= *mark == *self;
+        }
+        found
     }
 }

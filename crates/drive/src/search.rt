@@ -23,7 +23,7 @@ pub fn search<D: Drive>(drive: &D, track: Track, argument: SectorId) -> Result<u
         let field = drive.id(track, place);
         if !field.condition.is_good() {
             passed_spoiled = true;
-        } else if field.id == argument {
+        } else if field.id.same_as(argument) {
             return Ok(place);
         }
     }

@@ -3,7 +3,7 @@ ghost use Rattle.std.specs.Prelude.{◌≡◌, true, false, [], is_err};
 ghost use Rattle.basics.specs.Marks.{has, without, entered, entering};
 ghost use Rattle.basics.specs.Table.{held};
 
-use crate::mark::{Mark, found};
+use crate::mark::Mark;
 use crate::marks::Marks;
 use crate::refusal::Refusal;
 
@@ -21,7 +21,7 @@ impl<T: Mark, const N: usize> Marks<T, N> {
     pub fn has(&self, x: &T) -> bool
         ensures { result ≡ has T.Mark.alike x.now (held self.now) }
     {
-        found(&self.entries[..self.used], x)
+        x.is_among(&self.entries[..self.used])
     }
 
     // what entering would answer

@@ -1,10 +1,10 @@
 use Rattle.std.proofs.Common.{sym, ◌∙◌, rules}
 use Rattle.drive.proofs.SearchLaw.{found_answer, missing_answer, passes_spoiled, passes_other}
 use Rattle.drive.proofs.search.search.Goals as goal
-use Rattle.drive.proofs.search.search.Goals.{then-not-is_good, else-not-is_good+else-eq}
+use Rattle.drive.proofs.search.search.Goals.{then-not-is_good, else-not-is_good+else-same_as}
 
-pub returns-then-eq-clause-answer : goal.returns-then-eq-clause-answer
-returns-then-eq-clause-answer g c = found_answer _ _ _ _ (search rules)
+pub returns-then-same_as-clause-answer : goal.returns-then-same_as-clause-answer
+returns-then-same_as-clause-answer g c = found_answer _ _ _ _ (search rules)
 
 pub returns-clause-answer : goal.returns-clause-answer
 returns-clause-answer g c = missing_answer _ _ _ _ (search rules)
@@ -17,8 +17,8 @@ loop-place-preserved g c =
       | then-not-is_good w ↦
           rw w.passed_spoiled-is
           (passes_spoiled _ _ _ c.loop-place.place _ passed _ here (sym w.if-not-is_good.true ∙ c.is_good.ensures))
-      | else-not-is_good+else-eq w ↦
+      | else-not-is_good+else-same_as w ↦
           rw w.passed_spoiled-is
           (passes_other _ _ _ c.loop-place.place _ passed _ here
-          (sym w.if-not-is_good.false ∙ c.is_good.ensures) (sym w.if-eq.false ∙ w.eq.ensures))
+          (sym w.if-not-is_good.false ∙ c.is_good.ensures) (sym w.if-same_as.false ∙ w.same_as.ensures))
     ]
